@@ -38,8 +38,10 @@ ROOTS: List[Key] = [
     ("question_runs/specs/Answered.antt", "QuestionsAreAnswered"),
     ("question_runs/specs/Answered.antt", "RunsAnswer"),
     ("question_runs/specs/Loaded.antt", "CompiledQuestionsLoad"),
+    ("question_compiler/specs/Fault.antt", "HasNoFault"),
+    ("question_runs/specs/Words.antt", "ResultsHaveWords"),
     ("record_questions/specs/Tallies.antt", "WordsAreTallied"),
-    ("record_questions/specs/Tallies.antt", "TalliesAreTold"),
+    ("record_questions/specs/Tallies.antt", "TalliesAreTotals"),
 ]
 
 # what is named there and stands in no booklet, each with the reason
@@ -244,7 +246,9 @@ QUESTIONS = Booklet(
         Section("Tallies", r"record_questions/specs/Tallies\."),
         Section("Which questions can be asked", r"record_questions/specs/Asked\."),
         Section("How records are read back", r"emit_append/specs/Unpacking\.|pushdown/specs/ReadBack\."),
-        Section("Programs of questions", r"question_compiler/|question_runs/specs/Loaded\."),
+        Section("Programs of questions", r"question_compiler/specs/Compiled\.|question_runs/specs/Loaded\."),
+        Section("Why a question has no program", r"question_compiler/", {"record_questions/specs/Code.antt": "counted"}),
+        Section("The words of a result", r"question_runs/specs/Words\."),
         Section("What a device answers", r"question_runs/specs/Answered\."),
     ],
 )

@@ -227,20 +227,24 @@ MARKS: Dict[str, str] = {
         "P: number_of number_in signed_by value_of operand_value compares matches records_in matching cut cuts answer"
     ),
     "record_questions/specs/Tallies.antt": (
-        "P: tally_step tallied_from tallied_of tally_from; -: IsLeast IsGreatest WordsAreTallied TalliesAreTold"
+        "P: tally_step tallied_from tallied_of tally_from; -: IsLeast IsGreatest WordsAreTallied TalliesAreTotals"
     ),
     "record_questions/specs/Asked.antt": (
         "P: IsField IsNumber IsOperand IsPredicate IsRange IsTallied IsTally AreTallies IsQuestion"
     ),
     "question_runs/specs/Loaded.antt": "-: IsProgramOf HasQuestion NoEventLoads load_by QuestionWasLoaded CompiledQuestionsLoad",
     "question_compiler/specs/Compiled.antt": "-: IsCompiled",
+    "question_compiler/specs/Fault.antt": "P: records_end emitted_end frame_bytes most_emitted IsFaultOf; -: HasNoFault",
+    "question_compiler/src/fault.rt": "P: QuestionFault",
+    "record_questions/specs/Code.antt": "P: counted",
     "pushdown/specs/ReadBack.antt": (
         "-: Submits IsCompleted LoadSucceeds NoRunEnds ReadsGive NoEventClears ResultGives NoEventReplaces"
     ),
     "question_runs/specs/Answered.antt": (
-        "-: answer_of tallies_of AreRead StayRead StaysResult source destination records last IsAnswered AnswersIn "
+        "-: answer_of AreRead StayRead StaysResult source destination records tallies last IsAnswered AnswersIn "
         "RunsAnswer QuestionsAreAnswered"
     ),
+    "question_runs/specs/Words.antt": "-: matches_of tallies_of ComesTo IsWordOf HasWords ResultsHaveWords",
 }
 
 # the sections of a standard that comments don't name, by their files and names

@@ -19,6 +19,7 @@ MEANINGS: Dict[str, str] = {
     "bytes_eq": "`bytes_eq a b`, a test: are the lists of bytes the same?",
     "Contains": "`Contains xs x`: x is one of the elements",
     "max": "`max m n`: the greater of two numbers",
+    "min": "`min m n`: the less of two numbers",
     "neg_ℤ": "`neg_ℤ a`: -a",
     "twos_complement": "`twos_complement n x`: the number x of n bytes, read in two's complement",
     "◌⊎◌": "`A ⊎ B`: one of the two holds, or both",

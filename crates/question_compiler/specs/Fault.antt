@@ -1,5 +1,5 @@
 -- Why a question has no accepted program.
-use Rattle.std.specs.Prelude.{ℕ, Option, None, ◌≡◌, ◌<◌, ◌+◌, ◌*◌, length, Some}
+use Rattle.std.specs.Prelude.{ℕ, Option, None, ◌≡◌, ◌<◌, ◌≤◌, ◌+◌, ◌*◌, length, Some}
 use Rattle.program_interface.specs.RunSizes.{Sizes}
 use Rattle.program_interface.specs.declared.TheConstants.{MOST_SLOTS}
 use Rattle.program_interface.specs.declared.area.TheConstants.{SCRATCH_BYTES}
@@ -8,7 +8,7 @@ use Rattle.accepted_programs.specs.Accepted.{refusal}
 use Rattle.interval_domain.specs.Intervals.{intervals}
 use Rattle.question_compiler.specs.declared.fault.QuestionFault.{QuestionFault}
 use Rattle.question_compiler.specs.declared.fault.QuestionFault.TheVariants as fault
-use Rattle.record_questions.specs.Code.{question_program}
+use Rattle.record_questions.specs.Code.{counted, question_program}
 use Rattle.record_questions.specs.Asked.{IsQuestion}
 use Rattle.record_questions.specs.declared.question.ByteRange.{ByteRange}
 use Rattle.record_questions.specs.declared.question.Question.{Question}
@@ -26,19 +26,24 @@ frame_bytes (Some range) = FRAME_LENGTH_BYTES + range.size
 abbrev pub most_emitted : Question → ℕ
 most_emitted q = q.count * frame_bytes q.emitted
 
--- bytes of a record end so far into it
-abbrev pub EndsAt : Option ByteRange → ℕ → Type 0
-EndsAt None end = ⊥
-EndsAt (Some range) end = end ≡ range.offset + range.size
+-- the byte of a record at which what is emitted of it ends
+abbrev pub emitted_end : Option ByteRange → ℕ
+emitted_end None = 0
+emitted_end (Some range) = range.offset + range.size
 
 -- what each fault says of the question and the sizes that were asked for
 abbrev pub IsFaultOf : Question → Sizes → QuestionFault → Type 0
 IsFaultOf q sizes (fault.RecordsPassBlock end block) = (end ≡ records_end q) × (block ≡ sizes.block) × (block < end)
-IsFaultOf q sizes (fault.EmittedPassRecord end size) = EndsAt q.emitted end × (size ≡ q.size) × (size < end)
+IsFaultOf q sizes (fault.EmittedPassRecord end size) = (end ≡ emitted_end q.emitted) × (size ≡ q.size) × (size < end)
 IsFaultOf q sizes (fault.TooManyTallies count) = (count ≡ length q.tallies.items) × (SCRATCH_BYTES < 8 * count)
-IsFaultOf q sizes fault.NoQuestion = ¬ IsQuestion sizes.block q
+IsFaultOf q sizes fault.NoQuestion =
+    (records_end q ≤ sizes.block) × (emitted_end q.emitted ≤ q.size) × (8 * length q.tallies.items ≤ SCRATCH_BYTES)
+    × (¬ IsQuestion sizes.block q)
 IsFaultOf q sizes (fault.OverLimit needed limit) = (needed ≡ most_emitted q) × (limit ≡ sizes.limit) × (limit < needed)
-IsFaultOf q sizes fault.TooFar = Unit {0}
-IsFaultOf q sizes (fault.TooLong count) = (count ≡ length (question_program q)) × (MOST_SLOTS < count)
+IsFaultOf q sizes (fault.TooLong count) = (count ≡ counted (length (question_program q))) × (MOST_SLOTS < length (question_program q))
 IsFaultOf q sizes (fault.Refused why) = refusal intervals (question_program q) sizes ≡ Some why
 IsFaultOf q sizes fault.Memory = Unit {0}
+
+-- none of them is so, except Memory, which says nothing
+abbrev pub HasNoFault : Question → Sizes → Type 0
+HasNoFault q sizes = (why : QuestionFault) → IsFaultOf q sizes why → why ≡ fault.Memory

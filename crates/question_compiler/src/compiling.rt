@@ -1,10 +1,11 @@
 //! From a question to its program.
 
-ghost use Rattle.std.specs.Prelude.{◌≡◌, IfOk, IfErr};
+ghost use Rattle.std.specs.Prelude.{◌≡◌, ◌≤◌, IfOk, IfErr};
 ghost use Rattle.instruction_set.specs.Program.{slots_of};
 ghost use Rattle.question_compiler.specs.Compiled.{IsCompiled};
-ghost use Rattle.question_compiler.specs.Fault.{IsFaultOf, most_emitted};
+ghost use Rattle.question_compiler.specs.Fault.{HasNoFault, IsFaultOf, emitted_end, most_emitted};
 ghost use Rattle.program_interface.specs.RunSizes.{Sizes};
+ghost use Rattle.program_interface.specs.declared.block_size.TheConstants.{LARGEST_BLOCK};
 ghost use Rattle.record_questions.specs.Asked.{IsQuestion};
 ghost use Rattle.record_questions.specs.Code.{question_program};
 ghost use Rattle.verifier.specs.Verified.{program_of, sizes_of};
@@ -13,8 +14,8 @@ use crate::fault::QuestionFault;
 use crate::fits::all_fit;
 use instruction_set::{Instruction, Program};
 use interval_domain::Intervals;
-use program_interface::{FRAME_LENGTH_BYTES, MOST_SLOTS, RunSizes, SCRATCH_BYTES};
-use record_questions::{CodeFault, Question, instructions, is_question};
+use program_interface::{FRAME_LENGTH_BYTES, RunSizes, SCRATCH_BYTES};
+use record_questions::{ByteRange, CodeFault, Question, instructions, is_question};
 use std::alloc::Global;
 use verifier::{Verified, VerifyFault, verify};
 
@@ -35,8 +36,11 @@ fn slots(alloc: Global, code: &[Instruction]) -> Result<Vec<Option<Instruction>>
 }
 
 /// Whether a question can be asked of blocks of these sizes, within the limit.
+#[tactic(auto, using(crate::proofs::Slots::asked_of_largest))]
 fn fitted(question: &Question, sizes: RunSizes) -> Result<(), QuestionFault>
     ensures asked { IfOk result (λ done. IsQuestion sizes.block question.now) }
+    ensures largest { IfOk result (λ done. IsQuestion LARGEST_BLOCK question.now) }
+    ensures within { IfOk result (λ done. most_emitted question.now ≤ sizes.limit) }
     ensures failed { IfErr result (IsFaultOf question.now sizes) }
 {
     let block = sizes.block().bytes();
@@ -44,14 +48,10 @@ fn fitted(question: &Question, sizes: RunSizes) -> Result<(), QuestionFault>
     if end > block {
         return Err(QuestionFault::RecordsPassBlock { end, block });
     }
-    if let Some(range) = question.emitted {
-        let end = range.offset as u32 + range.size as u32;
-        if end > question.size as u32 {
-            return Err(QuestionFault::EmittedPassRecord {
-                end,
-                size: question.size,
-            });
-        }
+    let end = emitted_end(question.emitted);
+    let size = question.size;
+    if end > size as u32 {
+        return Err(QuestionFault::EmittedPassRecord { end, size });
     }
     let count = question.tallies.len();
     if count > SCRATCH_BYTES / 8 {
@@ -68,6 +68,16 @@ fn fitted(question: &Question, sizes: RunSizes) -> Result<(), QuestionFault>
     Ok(())
 }
 
+/// The byte of a record at which what is emitted of it ends.
+fn emitted_end(range: Option<ByteRange>) -> u32
+    ensures { result ≡ emitted_end range }
+{
+    match range {
+        None => 0,
+        Some(range) => range.offset as u32 + range.size as u32,
+    }
+}
+
 /// The bytes that are emitted for a block whose records all match.
 fn most_emitted(question: &Question) -> u32
     ensures { result ≡ most_emitted question.now }
@@ -81,19 +91,16 @@ fn most_emitted(question: &Question) -> u32
 /// The program of a question.
 #[tactic(auto, using(crate::proofs::Slots::some_slots))]
 fn program(alloc: Global, question: &Question) -> Result<Program, QuestionFault>
+    requires { IsQuestion LARGEST_BLOCK question.now }
     ensures program { IfOk result (λ program. program ≡ question_program question.now) }
     ensures failed { IfErr result (λ fault. (sizes : Sizes) → IsFaultOf question.now sizes fault) }
 {
     let code = match instructions(alloc, question) {
         Ok(code) => code,
-        Err(CodeFault::Number) => return Err(QuestionFault::TooFar),
+        Err(CodeFault::TooLong(count)) => return Err(QuestionFault::TooLong(count)),
         Err(CodeFault::Memory) => return Err(QuestionFault::Memory),
     };
     let slots = slots(alloc, code.as_slice())?;
-    let count = slots.len();
-    if count > MOST_SLOTS {
-        return Err(QuestionFault::TooLong(count));
-    }
     all_fit(code.as_slice());
     Ok(Program::from_slots(slots))
 }
@@ -103,7 +110,8 @@ fn program(alloc: Global, question: &Question) -> Result<Program, QuestionFault>
 /// # Errors
 ///
 /// What doesn't fit: the records or the emitted bytes, the tallies, a field or a number, what may be emitted for a block, the slots of
-/// the program; the refusal of the verifier; or want of memory.
+/// the program; the refusal of the verifier; or want of memory. Where none of them holds it gives the program.
+#[tactic(auto, using(crate::proofs::Faultless::no_fault))]
 pub fn compile(
     alloc: Global,
     question: &Question,
@@ -111,6 +119,7 @@ pub fn compile(
 ) -> Result<Verified<Intervals>, QuestionFault>
     ensures compiled { IfOk result (λ v. IsCompiled question.now sizes (program_of v)) }
     ensures sizes { IfOk result (λ v. sizes_of v ≡ sizes) }
+    ensures faultless { IfOk result (λ v. HasNoFault question.now sizes) }
     ensures failed { IfErr result (IsFaultOf question.now sizes) }
 {
     fitted(question, sizes)?;

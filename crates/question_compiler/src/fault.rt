@@ -27,9 +27,10 @@ pub enum QuestionFault {
     /// There are more tallies than scratch has words.
     #[error("{0} tallies, and scratch has {most} words", most = SCRATCH_BYTES / 8)]
     TooManyTallies(usize),
-    /// Something else of it can't be asked: a field ends after its record, a number has more than 64 bits, fields of different signs
-    /// are compared, a signed field is tallied, or no byte of a match is emitted.
-    #[error("a field passes its record, or can't be compared, tallied or emitted so")]
+    /// Something else of it can't be asked: it has no records, or records of no bytes, a field ends after its record, a number has more
+    /// than 64 bits, fields of different signs are compared, bytes are compared with none, a signed field is tallied, or no byte of a
+    /// match is emitted.
+    #[error("no records or no bytes, or a field that passes its record, or can't be compared, tallied or emitted so")]
     NoQuestion,
     /// A block whose records all match takes more bytes than the limit.
     #[error("a block whose records all match takes {needed} bytes, and the limit is {limit}")]
@@ -39,12 +40,9 @@ pub enum QuestionFault {
         /// The limit that was asked for.
         limit: u32,
     },
-    /// A jump or a number of the code is more than an instruction holds.
-    #[error("a jump or a number of the code doesn't fit an instruction")]
-    TooFar,
-    /// The code has more slots than a program can have.
+    /// The code has more slots than a program can have: so many, as far as 64 bits count.
     #[error("{0} slots, and a program has {MOST_SLOTS} at most")]
-    TooLong(usize),
+    TooLong(u64),
     /// The verifier refuses the program, for the first refusal.
     #[error("slot {}: {}", .0.slot, .0.reason)]
     Refused(Refusal),

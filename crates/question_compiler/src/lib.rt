@@ -4,6 +4,8 @@
 mod compiling;
 mod fault;
 mod fits;
+#[cfg(test)]
+mod tests;
 
 pub use compiling::compile;
 pub use fault::QuestionFault;

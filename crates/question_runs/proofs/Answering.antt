@@ -1,18 +1,18 @@
 -- A question that is asked of a device is answered.
-use Rattle.std.proofs.Common.{ℕ, zero, suc, ◌+◌, ◌/◌, ◌%◌, ◌<◌, ◌^◌, ◌≡◌, Bool, List, [], ◌∷◌, length, take, drop, get_or, Some, None, refl, sym, ap, ◌∙◌, subst, arith, lit<, length-drop}
+use Rattle.std.proofs.Common.{ℕ, zero, suc, ◌+◌, ◌/◌, ◌%◌, ◌<◌, ◌^◌, ◌≡◌, Bool, List, [], ◌∷◌, length, take, drop, get_or, Some, None, refl, sym, ap, ◌∙◌, subst, arith, length-drop}
 use Rattle.std.specs.List.{AllByRecursion, concat}
 use Rattle.std.specs.Prelude.{map, Ok}
-use Rattle.std.proofs.lemmas.List.{length-replicate, length-take-le, take_all}
+use Rattle.std.proofs.lemmas.List.{length-take-le, take_all}
 use Rattle.byteorder.specs.Endian.{little_number}
 use Rattle.byteorder.specs.Numbers.{little_from-lt}
-use Rattle.common_definitions.proofs.Proved.{all_drop, all_same, all_take, bytes_from}
+use Rattle.common_definitions.proofs.Proved.{bytes_from}
 use Rattle.common_definitions.specs.Bytes.{AreBytes}
-use Rattle.emit_append.proofs.Proved.{FitsByte, by_place, packed_frames_read_back}
+use Rattle.emit_append.proofs.Proved.{packed_frames_read_back}
 use Rattle.emit_append.specs.PackedLaw.{FitBlock}
 use Rattle.emit_append.specs.Packing.{packed}
 use Rattle.emit_append.specs.Unpacking.{unpacked}
 use Rattle.image_store.proofs.Proved.{block_most, block_some}
-use Rattle.image_store.specs.Namespace.{IsNamespace, ZonedNamespace, zone_at}
+use Rattle.image_store.specs.Namespace.{zone_at}
 use Rattle.nvme_entry.proofs.Proved.{fields_are_spelled}
 use Rattle.nvme_entry.specs.Entry.{decoded, identifier_of}
 use Rattle.nvme_entry.specs.declared.command.Command.TheVariants as commands
@@ -22,7 +22,7 @@ use Rattle.program_meaning.specs.BlockRun.{BlockRun}
 use Rattle.program_meaning.specs.TrapFree.{IsExit}
 use Rattle.device_meaning.proofs.Proved.{IsFine, all_exit, block_runs_all_done, groups_within, outcome_is_packed, reached_fine, ready, written}
 use Rattle.device_meaning.specs.Admission.{source_blocks, task_of}
-use Rattle.device_meaning.specs.BlockRuns.{AreScratch, Task, block_runs_of, groups_of, last_scratch, no_scratch}
+use Rattle.device_meaning.specs.BlockRuns.{Task, block_runs_of, groups_of, last_scratch, no_scratch}
 use Rattle.device_meaning.specs.EventReplies.{Happening, Submission, submission_of}
 use Rattle.device_meaning.specs.Events.{AreEvents, Occurrence, state_after}
 use Rattle.device_meaning.specs.Happenings.{turn_reply}
@@ -32,30 +32,15 @@ use Rattle.device_meaning.specs.State.{Place, State, loaded_at}
 use Rattle.pushdown.proofs.Proved.{appended_by_runs_reads_back, pushdown_from_any_beginning, results_read_back}
 use Rattle.pushdown.specs.Pushdown.{IsAdmitted, IsPushedDown, no_turn, own_turns}
 use Rattle.pushdown.specs.ReadBack.{ResultGives, after_turn, pointer, turns}
-use Rattle.question_runs.proofs.Runs.{AnswerAll, IsWhole, all_answered, all_some, flat_of_map}
-use Rattle.question_runs.specs.Answered.{AreRead, IsAnswered, RunsAnswer, answer_of, tallies_of}
+use Rattle.question_runs.proofs.Runs.{AnswerAll, all_answered, all_some, flat_of_map}
+use Rattle.question_runs.proofs.Words.{no_scratch_is, source_whole}
+use Rattle.question_runs.specs.Answered.{AreRead, IsAnswered, RunsAnswer, answer_of}
 use Rattle.question_runs.specs.Loaded.{HasQuestion}
+use Rattle.question_runs.specs.Words.{ResultsHaveWords, tallies_of}
 use Rattle.record_questions.specs.Asked.{IsQuestion}
 use Rattle.record_questions.specs.Laws.{AnswersBlocks}
 use Rattle.record_questions.specs.Question.{answer}
 use Rattle.record_questions.specs.declared.question.Question.{Question}
-
--- ---- source blocks
-
-blocks_by_place : (block : ℕ) (blocks : List (List ℕ)) → ((i : ℕ) → i < length blocks → length (get_or blocks i []) ≡ block)
-    → ((i : ℕ) → AreBytes (get_or blocks i [])) → AllByRecursion (IsWhole block) blocks
-blocks_by_place block [] long are = tt
-blocks_by_place block (b ∷ bs) long are = (
-  record { size = long 0 (omega arith); are = are 0 },
-  blocks_by_place block bs (λ i less. long (suc i) (omega (arith, less))) (λ i. are (suc i)),
-)
-
-source_whole : (ns : ZonedNamespace) (command : RunCommand) → IsNamespace ns → AllByRecursion (IsWhole ns.block) (source_blocks ns command)
-source_whole ns command is =
-    let z = command.lba / ns.size in
-    let at = command.lba % ns.size in
-    all_take (IsWhole ns.block) command.blocks (drop at (zone_at ns z).blocks) (all_drop (IsWhole ns.block) at (zone_at ns z).blocks
-    (blocks_by_place ns.block (zone_at ns z).blocks (is.whole z) (is.bytes z)))
 
 -- ---- the argument of a Run has 32 bits
 
@@ -76,16 +61,10 @@ last_ending (turn ∷ []) (suc k) is = absurd (omega (arith, is))
 last_ending (turn ∷ next ∷ turns) zero is = absurd (omega (arith, is))
 last_ending (turn ∷ next ∷ turns) (suc k) is = last_ending (next ∷ turns) k (omega (arith, is))
 
-no_scratch_is : AreScratch no_scratch
-no_scratch_is = record {
-  long = length-replicate {A = ℕ} 1024 0;
-  are = by_place no_scratch (all_same FitsByte 1024 0 (lit< tt));
-}
-
 -- ---- a Run of a question's program
 
-module _ (law : AnswersBlocks) (sound : IsSoundJudge interval_judge) (s : State) (command : RunCommand) (q : Question) (has : HasQuestion s command.slot q)
-    (queue : ℕ) (entry input : List ℕ) (starved : Bool) (run : ℕ) (events : List Occurrence)
+module _ (law : AnswersBlocks) (results : ResultsHaveWords) (sound : IsSoundJudge interval_judge) (s : State) (command : RunCommand)
+    (q : Question) (has : HasQuestion s command.slot q) (queue : ℕ) (entry input : List ℕ) (starved : Bool) (run : ℕ) (events : List Occurrence)
     (admitted : IsAdmitted s (submission_of queue entry input) command run) (are : AreBytes entry) (fit : AreEvents events)
     (done : own_turns run events + 1 ≡ command.blocks) where
   abbrev sub : Submission
@@ -192,8 +171,9 @@ module _ (law : AnswersBlocks) (sound : IsSoundJudge interval_judge) (s : State)
         subst (λ bytes. ResultGives interval_judge
         (state_after interval_judge later (after_turn interval_judge s queue entry input starved command run events later)) command.slot bytes) all.tallied
         (results_read_back interval_judge sound s has.reached queue entry input starved command run events later admitted is_last left).1;
+    words = results s command q has.reached is_question;
   }
 
-pub runs_answer : AnswersBlocks → IsSoundJudge interval_judge → RunsAnswer
-runs_answer law sound s command q has queue entry input starved run events admitted are fit done =
-    answered law sound s command q has queue entry input starved run events admitted are fit done
+pub runs_answer : AnswersBlocks → ResultsHaveWords → IsSoundJudge interval_judge → RunsAnswer
+runs_answer law results sound s command q has queue entry input starved run events admitted are fit done =
+    answered law results sound s command q has queue entry input starved run events admitted are fit done

@@ -1,5 +1,6 @@
 mod Loads
 mod Loading
 mod Runs
+mod Words
 mod Answering
 mod Witness

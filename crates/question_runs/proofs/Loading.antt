@@ -143,8 +143,10 @@ loaded_questions_stay sound spelled s slot q was = has_question sound spelled s 
 -- ---- a Load isn't refused for the program
 
 pub compiled_questions_load : SpelledIsDecoded → CompiledQuestionsLoad
-compiled_questions_load spelled s sub load q program is same passed =
+compiled_questions_load spelled s queue entry load q program asked is passed =
     let sizes = sizes_for s load in
-    ap (λ (why : Option Status). (load_unless interval_judge why false sub s load).reply) passed
+    let sub = submission_of queue entry (program_bytes program) in
+    ap (λ r. (submitted interval_judge false sub s r).reply) asked
+    ∙ (ap (λ (why : Option Status). (load_unless interval_judge why false sub s load).reply) passed
     ∙ ap (λ r. (judged sub s load r).reply)
-    (ap (λ (bytes : List ℕ). interval_judge bytes sizes) same ∙ (judged_as spelled program is.is_program sizes ∙ ap (accepted_unless program) is.accepted))
+    (judged_as spelled program is.is_program sizes ∙ ap (accepted_unless program) is.accepted))

@@ -26,17 +26,17 @@ use Rattle.device_meaning.specs.State.{State, with_slot}
 
 -- ---- completions of which one is a success and the other isn't
 
--- the bits of a status in the dword that tells it
+-- the bits of a status in its dword
 abbrev status_bits : Status → ℕ
 status_bits status = status.code * 2 ^ 17 + type_number status.kind * 2 ^ 25
 
 abbrev is_failure : Status → Bool
 is_failure status = nat_lt 0 (status_bits status) && nat_lt (status_bits status) (2 ^ 32)
 
--- the dword that a reply tells its status in
-abbrev status_told : Reply → ℕ
-status_told (reply.Complete queue entry length) = dword entry 3
-status_told _ = 0
+-- the dword of a reply that has its status
+abbrev status_in : Reply → ℕ
+status_in (reply.Complete queue entry length) = dword entry 3
+status_in _ = 0
 
 third : (c : Completion) → dword (completion_bytes c) 3 ≡ status_dword c.cid c.status / 256 ^ 0 % 256 ^ 4
 third c = little_from-bytes 4 0 (status_dword c.cid c.status) (drop 16 (completion_bytes c))
@@ -46,11 +46,11 @@ not_success : (queue cid dw0 dw1 : ℕ) (status : Status) → is_failure status 
 not_success queue cid dw0 dw1 status fails same =
     let failed : Completion = record { dw0 = dw0; dw1 = dw1; queue = queue; cid = cid; status = status } in
     let done : Completion = record { dw0 = 0; dw1 = 0; queue = queue; cid = cid; status = SUCCESS } in
-    let told = ap (λ (answer : ReplyWithData). status_told answer.reply) same in
+    let statuses = ap (λ (answer : ReplyWithData). status_in answer.reply) same in
     let both = and_parts (nat_lt 0 (status_bits status)) (nat_lt (status_bits status) (2 ^ 32)) fails in
     let some = ltb-true 0 (status_bits status) both.0 in
     let few = ltb-true (status_bits status) (2 ^ 32) both.1 in
-    omega (arith, third failed, third done, told, some, few)
+    omega (arith, third failed, third done, statuses, some, few)
 
 -- ---- the checks of a Load
 
@@ -84,8 +84,8 @@ module _ (judge : Judge) (sub : Submission) (s : State) (load : LoadCommand) (pr
   judged_leaves : (w : Option Refusal) → (judged sub s load (accepted_unless program w)).reply ≡ success
       → (judged sub s load (accepted_unless program w)).state ≡ loaded
   judged_leaves (Some refusal) done =
-      let told = refused_for_reason refusal in
-      absurd (not_success sub.queue (identifier_of sub.entry) told.slot told.reason PROGRAM_REFUSED refl done)
+      let answer = refused_for_reason refusal in
+      absurd (not_success sub.queue (identifier_of sub.entry) answer.slot answer.reason PROGRAM_REFUSED refl done)
   judged_leaves None done = refl
 
   unless_leaves : (failed : Option Status) (starved : Bool) → FailsSo failed → (load_unless judge failed starved sub s load).reply ≡ success

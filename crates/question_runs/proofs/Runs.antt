@@ -42,7 +42,7 @@ context_are task index =
     all_append FitsByte (little_bytes 8 (task.lba + index)) (words ++ zeros) (little_are 8 (task.lba + index))
     (all_append FitsByte words zeros (words_are (index ∷ task.count ∷ task.sizes.block ∷ task.argument ∷ [])) (all_same FitsByte 8 0 (lit< tt)))
 
--- it tells the argument
+-- the argument is in it
 argument_is : (task : Task) (index : ℕ) → task.argument < 2 ^ 32 → argument_in (context task index) ≡ task.argument
 argument_is task index small =
     let read : argument_in (context task index) ≡ task.argument / 256 ^ 0 % 256 ^ 4 = little_from-bytes 4 0 task.argument (replicate 8 0) in
@@ -76,11 +76,11 @@ module _ (law : AnswersBlocks) (q : Question) (task : Task) (is : IsQuestion tas
   one_answered : (index : ℕ) (scratch bytes : List ℕ) → AreScratch scratch → IsWhole task.sizes.block bytes
       → Answers q task.argument bytes scratch (block_run task index scratch bytes)
   one_answered index scratch bytes left whole =
-      let told = context task index in
-      let run : List (Option Instruction) → BlockRun = λ program. block_run_over program task.sizes.limit bytes told scratch in
+      let given = context task index in
+      let run : List (Option Instruction) → BlockRun = λ program. block_run_over program task.sizes.limit bytes given scratch in
       let safe : NeverTraps (question_program q) task.sizes.limit task.sizes.block = subst (λ program. NeverTraps program task.sizes.limit task.sizes.block) same never in
-      let answered : Answers q (argument_in told) bytes scratch (run (question_program q)) =
-      law q task.sizes.limit task.sizes.block is safe bytes told scratch whole.size (starts index scratch bytes left whole) in
+      let answered : Answers q (argument_in given) bytes scratch (run (question_program q)) =
+      law q task.sizes.limit task.sizes.block is safe bytes given scratch whole.size (starts index scratch bytes left whole) in
       subst (λ program. Answers q task.argument bytes scratch (run program)) (sym same)
       (subst (λ (argument : ℕ). Answers q argument bytes scratch (run (question_program q))) (argument_is task index fits) answered)
 
@@ -120,7 +120,7 @@ kept_first : (P : List ℕ → Type 0) (b : Bool) (r : List ℕ) (rs : List (Lis
 kept_first P true r rs h hs = (h, hs)
 kept_first P false r rs h hs = hs
 
-kept_all : (P : List ℕ → Type 0) (test : List ℕ → Bool) (rs : List (List ℕ)) → AllByRecursion P rs → AllByRecursion P (filter test rs)
+pub kept_all : (P : List ℕ → Type 0) (test : List ℕ → Bool) (rs : List (List ℕ)) → AllByRecursion P rs → AllByRecursion P (filter test rs)
 kept_all P test [] h = tt
 kept_all P test (r ∷ rs) h = kept_first P (test r) r (filter test rs) h.0 (kept_all P test rs h.1)
 

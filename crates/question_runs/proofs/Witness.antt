@@ -1,5 +1,5 @@
 -- A question of which the laws speak, by computing the definitions.
-use Rattle.std.proofs.Common.{◌≡◌, ℕ, Bool, true, false, pos, List, [], ◌∷◌, ◌++◌, replicate, Option, Some, Ok, refl, lit<, lit≤, arith}
+use Rattle.std.proofs.Common.{◌≡◌, ℕ, Bool, true, false, List, [], ◌∷◌, ◌++◌, replicate, Option, Some, Ok, refl, lit<, lit≤}
 use Rattle.std.specs.Prelude.{◌&&◌, nat_lt}
 use Rattle.std.proofs.lemmas.Bool.{and_parts, ltb-true}
 use Rattle.std.specs.declared.alloc.Global.{Global}
@@ -30,11 +30,13 @@ use Rattle.question_runs.specs.Met.{IsMet, QuestionIsMet}
 use Rattle.record_questions.specs.Asked.{IsQuestion}
 use Rattle.record_questions.specs.Code.{question_program}
 use Rattle.record_questions.specs.declared.question.ByteOrder.TheVariants.{Little}
-use Rattle.record_questions.specs.declared.question.Comparison.TheVariants.{Equal}
-use Rattle.record_questions.specs.declared.question.Operand.TheVariants as operands
+use Rattle.record_questions.specs.declared.question.Comparison.TheVariants.{GreaterOrEqual}
+use Rattle.record_questions.specs.declared.question.Field.{Field}
+use Rattle.record_questions.specs.declared.question.Operand.TheVariants.{Argument}
 use Rattle.record_questions.specs.declared.question.Predicate.TheVariants.{Compare}
 use Rattle.record_questions.specs.declared.question.Question.{Question}
 use Rattle.record_questions.specs.declared.question.Sign.TheVariants.{Unsigned}
+use Rattle.record_questions.specs.declared.question.Tally.TheVariants.{Count}
 
 -- ---- bytes, by a test
 
@@ -71,9 +73,9 @@ is_shape = record {
   room = lit≤ tt;
 }
 
--- a block that begins with this byte
-abbrev block : ℕ → List ℕ
-block byte = byte ∷ replicate 511 0
+-- a block of two records of eight bytes, of each its first byte, and nothing else
+abbrev block : ℕ → ℕ → List ℕ
+block first second = first ∷ replicate 7 0 ++ second ∷ replicate 503 0
 
 -- ---- entries
 
@@ -89,16 +91,16 @@ append_entry cid lba = entry_of 0x7d cid lba (replicate 16 0)
 abbrev open_entry : ℕ → ℕ → List ℕ
 open_entry cid lba = entry_of 0x79 cid lba (0 ∷ 0 ∷ 0 ∷ 0 ∷ 3 ∷ replicate 11 0)
 
--- Load of 80 bytes into slot 0, whose groups have at most 4 bytes
+-- Load of 176 bytes into slot 0, whose groups have at most 8 bytes
 abbrev load_entry : ℕ → List ℕ
-load_entry cid = 0xc1 ∷ 0 ∷ cid ∷ 0 ∷ 1 ∷ 0 ∷ 0 ∷ 0 ∷ replicate 36 0 ++ 4 ∷ 0 ∷ 0 ∷ 0 ∷ 80 ∷ replicate 15 0
+load_entry cid = 0xc1 ∷ 0 ∷ cid ∷ 0 ∷ 1 ∷ 0 ∷ 0 ∷ 0 ∷ replicate 36 0 ++ 8 ∷ 0 ∷ 0 ∷ 0 ∷ 176 ∷ replicate 15 0
 
--- Run of the program in slot 0, over the first two blocks of zone 0, which appends to zone 1
+-- Run of the program in slot 0 with the argument 8, over the first two blocks of zone 0, which appends to zone 1
 abbrev run_entry : ℕ → List ℕ
-run_entry cid = entry_of 0xc0 cid 0 (1 ∷ replicate 7 0 ++ 8 ∷ replicate 7 0)
+run_entry cid = entry_of 0xc0 cid 0 (1 ∷ 0 ∷ 0 ∷ 0 ∷ 8 ∷ 0 ∷ 0 ∷ 0 ∷ 8 ∷ replicate 7 0)
 
 abbrev command : RunCommand
-command = record { lba = 0; blocks = 2; slot = 0; argument = 0; destination = 8 }
+command = record { lba = 0; blocks = 2; slot = 0; argument = 8; destination = 8 }
 
 -- an entry in queue 1, with these bytes beside it
 abbrev submits : (entry bytes : List ℕ) → Occurrence
@@ -107,7 +109,7 @@ submits entry bytes = record { event = told.Submitted 1 entry bytes; starved = f
 -- ---- a state that events leave: two blocks are appended to zone 0, and zone 1 is opened
 
 abbrev events : List Occurrence
-events = submits (append_entry 1 0) (block 7) ∷ submits (append_entry 2 0) (block 8) ∷ submits (open_entry 3 8) [] ∷ []
+events = submits (append_entry 1 0) (block 7 9) ∷ submits (append_entry 2 0) (block 8 3) ∷ submits (open_entry 3 8) [] ∷ []
 
 abbrev before : State
 before = state_after interval_judge events (new_state (all_empty four))
@@ -117,32 +119,37 @@ is_reached = record {
   first = new_state (all_empty four);
   events = events;
   begins = new_may_begin interval_judge (all_empty four) (empty_is_namespace four is_shape);
-  bytes = (bytes_are (block 7) refl, (bytes_are (block 8) refl, (no_bytes, tt)));
+  bytes = (bytes_are (block 7 9) refl, (bytes_are (block 8 3) refl, (no_bytes, tt)));
   leaves = refl;
 }
 
--- ---- a question: of a record whose first byte is 7, its first two bytes
+-- ---- a question: of the records whose first byte is at least the argument their first two bytes, and how many they are
 
 abbrev sizes : Sizes
-sizes = record { block = 512; limit = 4 }
+sizes = record { block = 512; limit = 8 }
+
+abbrev first_byte : Field
+first_byte = record { size = Byte; offset = 0; sign = Unsigned; order = Little }
 
 module _ (ptr : Ptr) (alloc : Global) where
   abbrev q : Question
   q = record {
     first = 0;
     size = 8;
-    count = 1;
-    wanted = Compare (record { size = Byte; offset = 0; sign = Unsigned; order = Little }) Equal (operands.Number (pos 7));
+    count = 2;
+    wanted = Compare first_byte GreaterOrEqual Argument;
     emitted = Some (record { offset = 0; size = 2 });
-    tallies = record { ptr = ptr; len = 0; cap = 0; alloc = alloc; items = []; ok = (refl, lit≤ tt); small = lit< tt };
+    tallies = record { ptr = ptr; len = 1; cap = 1; alloc = alloc; items = Count ∷ []; ok = (refl, lit≤ tt); small = lit< tt };
   }
 
   is_question : IsQuestion 512 q
   is_question = record {
+    some_bytes = lit≤ tt;
+    some_records = lit≤ tt;
     inside = lit≤ tt;
-    wanted = (lit≤ tt, (omega arith, omega arith));
+    wanted = (lit≤ tt, tt);
     emitted = (lit≤ tt, lit≤ tt);
-    tallies = tt;
+    tallies = (tt, tt);
     few_tallies = lit≤ tt;
   }
 
@@ -167,7 +174,7 @@ module _ (ptr : Ptr) (alloc : Global) where
   state = state_after interval_judge (load_by 1 (load_entry 4) program false ∷ []) before
 
   abbrev load : LoadCommand
-  load = record { slot = 0; limit = 4; bytes = 80 }
+  load = record { slot = 0; limit = 8; bytes = 176 }
 
   was_loaded : QuestionWasLoaded state 0 q
   was_loaded = record {
@@ -207,8 +214,13 @@ module _ (ptr : Ptr) (alloc : Global) where
     bytes = bytes_are (run_entry 5) refl;
     are_events = (tt, tt);
     last_left = refl;
+    compared = first_byte;
+    asks_argument = refl;
+    counts = refl;
+    two_records = refl;
     two_blocks = refl;
-    one_matches = refl;
+    two_match = refl;
+    count_is = refl;
   }
 
 pub question_is_met : QuestionIsMet

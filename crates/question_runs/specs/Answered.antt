@@ -9,7 +9,6 @@ use Rattle.nvme_entry.specs.declared.command.RunCommand.{RunCommand}
 use Rattle.nvme_entry.specs.declared.command.TheConstants.{MOST_TRANSFER}
 use Rattle.emit_append.specs.Unpacking.{unpacked}
 use Rattle.device_meaning.specs.Admission.{destination_zone, source_blocks}
-use Rattle.device_meaning.specs.BlockRuns.{no_scratch}
 use Rattle.device_meaning.specs.EventReplies.{Happening, completion, submission_of}
 use Rattle.device_meaning.specs.Events.{AreEvents, Occurrence, state_after}
 use Rattle.device_meaning.specs.Judging.{interval_judge}
@@ -17,8 +16,8 @@ use Rattle.device_meaning.specs.State.{State}
 use Rattle.pushdown.specs.Pushdown.{IsAdmitted, next, own_turns}
 use Rattle.pushdown.specs.ReadBack.{NoEventClears, NoEventReplaces, ReadsGive, ResultGives}
 use Rattle.question_runs.specs.Loaded.{HasQuestion, QuestionWasLoaded}
-use Rattle.record_questions.specs.Question.{answer, matching}
-use Rattle.record_questions.specs.Tallies.{tallied_of}
+use Rattle.question_runs.specs.Words.{HasWords, matches_of, tallies_of}
+use Rattle.record_questions.specs.Question.{answer}
 use Rattle.record_questions.specs.declared.question.Question.{Question}
 
 -- ---- answers
@@ -26,10 +25,6 @@ use Rattle.record_questions.specs.declared.question.Question.{Question}
 -- the answer of blocks: what is emitted of those of their records that match, in order
 abbrev pub answer_of : Question → ℕ → List (List ℕ) → List (List ℕ)
 answer_of q argument blocks = flat_map (answer q argument) blocks
-
--- scratch with all their records tallied that match
-abbrev pub tallies_of : Question → ℕ → List (List ℕ) → List ℕ
-tallies_of q argument blocks = tallied_of q (flat_map (matching q argument) blocks) no_scratch
 
 -- ---- what is read
 
@@ -63,22 +58,28 @@ module _ (s : State) (queue : ℕ) (entry input : List ℕ) (starved : Bool) (co
   abbrev pub destination : ℕ
   destination = destination_zone s.namespace command
 
-  -- its records
+  -- what is emitted of their records that match
   abbrev pub records : List (List ℕ)
   records = answer_of q command.argument source
+
+  -- the tallies of these records
+  abbrev pub tallies : List ℕ
+  tallies = tallies_of q command.argument source
 
   -- what its last turn comes to
   abbrev pub last : Happening
   last = next interval_judge s queue entry input starved command run events
 
   -- The last turn is answered with the completion of the Run, a success, which has the number of the records, and that of the blocks that
-  -- were appended. These are read from where the destination's end was, and unpack to the records. Result gives the tallies.
+  -- were appended. These are read from where the destination's end was, and unpack to the records. Result gives the tallies: word i
+  -- of them is what tally i of the matching records comes to.
   pub record IsAnswered : Type 0 where
     pub appended : List (List ℕ)
     pub completed : last.reply ≡ completion queue (identifier_of entry) SUCCESS (length records) (length appended) []
     pub read : StayRead last.state destination (write_pointer s.namespace destination) s.namespace.block appended
     pub unpacks : unpacked s.namespace.block (concat appended) ≡ Ok records
-    pub result : StaysResult last.state command.slot (tallies_of q command.argument source)
+    pub result : StaysResult last.state command.slot tallies
+    pub words : HasWords q (matches_of q command.argument source) tallies
 
 -- In each state in which a slot has the program of a question: a Run of the slot is admitted, events come, and all its turns but the
 -- last are among them, of which there is one for each block. The last turn answers it.

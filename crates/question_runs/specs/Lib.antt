@@ -1,3 +1,4 @@
 pub mod Answered
 pub mod Loaded
 pub mod Met
+pub mod Words

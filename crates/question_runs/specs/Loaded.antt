@@ -9,9 +9,9 @@ use Rattle.instruction_set.specs.declared.instruction.Instruction.{Instruction}
 use Rattle.instruction_set.specs.Spelling.{program_bytes}
 use Rattle.program_interface.specs.RunSizes.{Sizes}
 use Rattle.device_meaning.specs.Admission.{program_in}
-use Rattle.device_meaning.specs.EventReplies.{Submission, completion}
+use Rattle.device_meaning.specs.EventReplies.{completion}
 use Rattle.device_meaning.specs.Events.{AreEvents, Occurrence, state_after}
-use Rattle.device_meaning.specs.Happenings.{happens, load_checks, loading, sizes_for}
+use Rattle.device_meaning.specs.Happenings.{happens, load_checks, sizes_for}
 use Rattle.device_meaning.specs.Judging.{interval_judge}
 use Rattle.device_meaning.specs.Reached.{IsReached}
 use Rattle.device_meaning.specs.State.{State, loaded_at}
@@ -70,11 +70,12 @@ pub record QuestionWasLoaded (s : State) (slot : ℕ) (q : Question) : Type 0 wh
 abbrev pub LoadedQuestionsStay : Type 0
 LoadedQuestionsStay = (s : State) (slot : ℕ) (q : Question) → QuestionWasLoaded s slot q → HasQuestion s slot q
 
--- a Load of a question's program for the sizes that it was compiled for succeeds, where no check of a Load fails that is about no
--- program, and memory isn't refused
+-- In any state an entry asks for a Load, and beside it is the program of a question, compiled for the sizes that the Load names. It
+-- succeeds where no check of a Load fails, none of which is about the program, and memory isn't refused.
 abbrev pub CompiledQuestionsLoad : Type 0
 CompiledQuestionsLoad =
-    (s : State) (sub : Submission) (load : LoadCommand) (q : Question) (program : List (Option Instruction))
-    → IsCompiled q (sizes_for s load) program → sub.input ≡ program_bytes program
-    → first_failed (load_checks s load sub.input) ≡ None
-    → (loading interval_judge false sub s load).reply ≡ completion sub.queue (identifier_of sub.entry) SUCCESS 0 0 []
+    (s : State) (queue : ℕ) (entry : List ℕ) (load : LoadCommand) (q : Question) (program : List (Option Instruction))
+    → decoded entry ≡ Ok (commands.Load load) → IsCompiled q (sizes_for s load) program
+    → first_failed (load_checks s load (program_bytes program)) ≡ None
+    → (happens interval_judge s false (told.Submitted queue entry (program_bytes program))).reply
+    ≡ completion queue (identifier_of entry) SUCCESS 0 0 []

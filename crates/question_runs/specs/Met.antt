@@ -2,7 +2,7 @@
 use Rattle.std.specs.Prelude.{ℕ, Bool, ◌≡◌, ◌+◌, List, [], ◌∷◌, length}
 use Rattle.std.specs.declared.alloc.Global.{Global}
 use Rattle.std.specs.Ptr.{Ptr}
-use Rattle.common_definitions.specs.Bytes.{AreBytes}
+use Rattle.common_definitions.specs.Bytes.{AreBytes, field}
 use Rattle.nvme_entry.specs.declared.command.RunCommand.{RunCommand}
 use Rattle.device_meaning.specs.Admission.{source_blocks}
 use Rattle.device_meaning.specs.EventReplies.{submission_of}
@@ -11,10 +11,17 @@ use Rattle.device_meaning.specs.State.{State}
 use Rattle.pushdown.specs.Pushdown.{IsAdmitted, own_turns}
 use Rattle.question_runs.specs.Answered.{answer_of}
 use Rattle.question_runs.specs.Loaded.{QuestionWasLoaded}
+use Rattle.question_runs.specs.Words.{tallies_of}
+use Rattle.record_questions.specs.declared.question.Comparison.TheVariants.{GreaterOrEqual}
+use Rattle.record_questions.specs.declared.question.Field.{Field}
+use Rattle.record_questions.specs.declared.question.Operand.TheVariants.{Argument}
+use Rattle.record_questions.specs.declared.question.Predicate.TheVariants.{Compare}
 use Rattle.record_questions.specs.declared.question.Question.{Question}
+use Rattle.record_questions.specs.declared.question.Tally.TheVariants.{Count}
 
--- a question, a device that has loaded its program, and a Run that is admitted there, with all its turns but the last: of the records of
--- its two blocks one matches
+-- A question, a device that has loaded its program, and a Run that is admitted there, with all its turns but the last. The question
+-- compares a field with the argument of the run, and counts. Of the four records in the two blocks of the run two match, one of each
+-- block.
 pub record IsMet : Type 0 where
   pub q : Question
   pub state : State
@@ -30,8 +37,13 @@ pub record IsMet : Type 0 where
   pub bytes : AreBytes entry
   pub are_events : AreEvents events
   pub last_left : own_turns run events + 1 ≡ command.blocks
+  pub compared : Field
+  pub asks_argument : q.wanted ≡ Compare compared GreaterOrEqual Argument
+  pub counts : q.tallies.items ≡ Count ∷ []
+  pub two_records : q.count ≡ 2
   pub two_blocks : length (source_blocks state.namespace command) ≡ 2
-  pub one_matches : answer_of q command.argument (source_blocks state.namespace command) ≡ (7 ∷ 0 ∷ []) ∷ []
+  pub two_match : answer_of q command.argument (source_blocks state.namespace command) ≡ (9 ∷ 0 ∷ []) ∷ (8 ∷ 0 ∷ []) ∷ []
+  pub count_is : field (tallies_of q command.argument (source_blocks state.namespace command)) 0 8 ≡ 2
 
 -- all premises of `QuestionsAreAnswered` are met, wherever the question's list of tallies lies in memory
 abbrev pub QuestionIsMet : Type 0

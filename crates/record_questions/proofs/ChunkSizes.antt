@@ -1,13 +1,13 @@
 -- The chunks in which bytes are compared.
-use Rattle.std.proofs.Common.{ℕ, zero, suc, ◌+◌, ◌-◌, ◌*◌, ◌/◌, ◌%◌, ◌<◌, ◌≤◌, ◌≡◌, Bool, true, false, List, [], ◌∷◌, ◌++◌, length, drop, replicate, refl, sym, ap, ◌∙◌, subst, arith, length-drop, append_assoc}
-use Rattle.std.specs.Prelude.{IfOk, Result, Ok, Err, nat_le, if◌then◌else◌}
+use Rattle.std.proofs.Common.{ℕ, zero, suc, ◌+◌, ◌-◌, ◌*◌, ◌/◌, ◌%◌, ◌^◌, ◌<◌, ◌≤◌, ◌≡◌, Bool, true, false, List, [], ◌∷◌, ◌++◌, length, drop, replicate, refl, sym, ap, ◌∙◌, subst, arith, length-drop, append_assoc}
+use Rattle.std.specs.Prelude.{IfOk, Result, Ok, Err, min, nat_le, if◌then◌else◌}
 use Rattle.std.proofs.lemmas.Bool.Decides.{nat_tests}
 use Rattle.instruction_set.specs.Instruction.{size_of}
 use Rattle.instruction_set.specs.declared.instruction.Instruction.{Instruction}
 use Rattle.instruction_set.specs.declared.operation.Size.{Size}
 use Rattle.instruction_set.specs.declared.operation.Size.TheVariants.{Byte, HalfWord, Word, DoubleWord}
 use Rattle.record_questions.specs.declared.question.Comparison.TheVariants.{Equal}
-use Rattle.record_questions.specs.Code.{chunk_field, chunk_operand, chunk_size, chunk_sizes, chunks_code, chunks_slots, comparison_code, comparison_slots}
+use Rattle.record_questions.specs.Code.{counted, chunk_field, chunk_operand, chunk_size, chunk_sizes, chunks_code, chunks_slots, comparison_code, comparison_slots}
 
 -- the first chunk, and the others
 next_few : (n : ℕ) → 1 ≤ n → n < 8 → chunk_sizes n ≡ chunk_size n ∷ chunk_sizes (n - size_of (chunk_size n))
@@ -49,12 +49,20 @@ pub from_ok : {X E : Type 0} (r : Result X E) (P Q : X → Type 0) → IfOk r P 
 from_ok (Ok x) P Q h f = f x h
 from_ok (Err e) P Q h f = tt
 
-pub next_slots : (xs rest : List ℕ) (s : Size) (a b n : ℕ) → 1 ≤ length xs → s ≡ chunk_size (length xs) → rest ≡ drop (size_of s) xs
+next_slots : (xs rest : List ℕ) (s : Size) (a b n : ℕ) → 1 ≤ length xs → s ≡ chunk_size (length xs) → rest ≡ drop (size_of s) xs
     → a ≡ comparison_slots (chunk_field s 0) (chunk_operand s xs) → b ≡ chunks_slots (chunk_sizes (length rest)) rest → n ≡ a + b
     → n ≡ chunks_slots (chunk_sizes (length xs)) xs
 next_slots xs rest s a b n some es er ea eb en =
     en ∙ (ap (λ k. k + b) ea ∙ (ap (λ k. comparison_slots (chunk_field s 0) (chunk_operand s xs) + k) (eb ∙ ap (λ ys. chunks_slots (chunk_sizes (length ys)) ys) er)
     ∙ sym (ap (λ ss. chunks_slots ss xs) (subst (λ k. chunk_sizes (length xs) ≡ k ∷ chunk_sizes (length (drop (size_of k) xs))) (sym es) (next_chunk xs some)))))
+
+-- the slots of the first chunk and of the others
+pub slots_after : (xs rest : List ℕ) (s : Size) → 1 ≤ length xs → s ≡ chunk_size (length xs) → rest ≡ drop (size_of s) xs
+    → chunks_slots (chunk_sizes (length xs)) xs ≡ comparison_slots (chunk_field s 0) (chunk_operand s xs) + chunks_slots (chunk_sizes (length rest)) rest
+slots_after xs rest s some es er = sym (next_slots xs rest s _ _ _ some es er refl refl refl)
+
+pub counted_next : (a b n r k : ℕ) → a ≡ n → b ≡ counted r → k ≡ n + r → min (a + b) (2 ^ 64 - 1) ≡ counted k
+counted_next a b n r k ea eb ek = omega (arith, ea, eb, ek)
 
 pub next_code : (old between new : List Instruction) (byte offset next : ℕ) (xs rest : List ℕ) (s : Size) (skip left further : ℕ)
     → 1 ≤ length xs → s ≡ chunk_size (length xs) → rest ≡ drop (size_of s) xs → next ≡ offset + size_of s

@@ -11,3 +11,5 @@ mod Tests
 mod Matches
 mod Records
 mod Words
+mod Reach
+mod Counts

@@ -60,7 +60,7 @@ range_slots_are : (byte : ℕ) (range : Option ByteRange) → slot_count (range_
 range_slots_are byte None = refl
 range_slots_are byte (Some range) = refl
 
-match_slots_are : (q : Question) (byte : ℕ) → slot_count (match_code q byte) ≡ match_slots q
+pub match_slots_are : (q : Question) (byte : ℕ) → slot_count (match_code q byte) ≡ match_slots q
 match_slots_are q byte =
     let a = tallies_slots_are byte 0 q.tallies.items in
     let b = range_slots_are byte q.emitted in

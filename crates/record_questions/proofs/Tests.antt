@@ -273,10 +273,10 @@ module _ (w : Course) (scratch group : List ℕ) (frames : ℕ) where
       let dropped = length-drop byte w.memory.block in
       let taken = length-take size (drop byte w.memory.block) in
       let left = length-drop offset r in
-      let whole = chunks_are bytes.items (drop offset r) (omega (arith, is.0, fits, dropped, taken, left)) is.1
+      let whole = chunks_are bytes.items (drop offset r) (omega (arith, is.1, fits, dropped, taken, left)) is.2
       (bytes_from offset r (record_bytes size byte w.memory.block w.bytes)) in
       subst (λ b. Comes (slot + slot_count (bytes_code byte on offset bytes.items skip) + skipped (skips on b) skip)) whole
-      (bytes_come on slot byte size offset bytes.items skip is.0 is.1 fits stands come)
+      (bytes_come on slot byte size offset bytes.items skip is.1 is.2 fits stands come)
   test_comes (And' x p y q) on slot byte size skip is fits stands come =
       let other = over on (test_slots on q) skip in
       let a = test_code byte true p other in

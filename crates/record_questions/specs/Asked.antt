@@ -30,10 +30,10 @@ IsOperand bytes sign (operands.Number z) = IsNumber sign z
 IsOperand bytes sign operands.Argument = ⊤
 IsOperand bytes sign (operands.Field f) = IsField bytes f × (f.sign ≡ sign)
 
--- what a predicate looks at lies in a record of so many bytes, and its numbers have 64 bits
+-- what a predicate looks at is some bytes that lie in a record of so many, and its numbers have 64 bits
 abbrev pub IsPredicate : ℕ → Predicate → Type 0
 IsPredicate bytes (Compare f comparison operand) = IsField bytes f × IsOperand bytes f.sign operand
-IsPredicate bytes (Bytes offset these) = (offset + length these.items ≤ bytes) × AreBytes these.items
+IsPredicate bytes (Bytes offset these) = (1 ≤ length these.items) × (offset + length these.items ≤ bytes) × AreBytes these.items
 IsPredicate bytes (And' x p y q) = IsPredicate bytes p × IsPredicate bytes q
 IsPredicate bytes (Or' x p y q) = IsPredicate bytes p × IsPredicate bytes q
 IsPredicate bytes (Not' x p) = IsPredicate bytes p
@@ -57,9 +57,11 @@ abbrev pub AreTallies : ℕ → List Tally → Type 0
 AreTallies bytes [] = ⊤
 AreTallies bytes (t ∷ ts) = IsTally bytes t × AreTallies bytes ts
 
--- a question that can be asked of blocks of so many bytes: its records lie in a block, what it looks at lies in a record, and each
--- tally has a word of scratch
+-- a question that can be asked of blocks of so many bytes: it has records, of at least a byte, they lie in a block, what it looks at
+-- lies in a record, and each tally has a word of scratch
 pub record IsQuestion (block : ℕ) (q : Question) : Type 0 where
+  pub some_bytes : 1 ≤ q.size
+  pub some_records : 1 ≤ q.count
   pub inside : q.first + q.count * q.size ≤ block
   pub wanted : IsPredicate q.size q.wanted
   pub emitted : IsRange q.size q.emitted

@@ -1,5 +1,5 @@
 -- The program of a question.
-use Rattle.std.specs.Prelude.{ℕ, ℤ, zero, suc, pos, neg_ℤ, Bool, true, false, not, ◌&&◌, ◌+◌, ◌/◌, ◌%◌, ◌^◌, nat_le, replicate, drop, length, int_lt, int_le, if◌then◌else◌, List, [], ◌∷◌, ◌++◌, Option, Some, None}
+use Rattle.std.specs.Prelude.{ℕ, ℤ, zero, suc, pos, neg_ℤ, Bool, true, false, not, ◌&&◌, ◌+◌, ◌/◌, ◌%◌, ◌-◌, ◌^◌, min, nat_le, replicate, drop, length, int_lt, int_le, if◌then◌else◌, List, [], ◌∷◌, ◌++◌, Option, Some, None}
 use Rattle.std.specs.Int.{w64, cast_unsigned}
 use Rattle.byteorder.specs.Endian.{little_number}
 use Rattle.instruction_set.specs.Instruction.{size_of}
@@ -35,6 +35,10 @@ use Rattle.record_questions.specs.declared.question.ByteRange.{ByteRange}
 use Rattle.record_questions.specs.declared.question.Tally.{Tally}
 use Rattle.record_questions.specs.declared.question.Tally.TheVariants.{Count, Sum, Least, Greatest}
 use Rattle.record_questions.specs.declared.question.Question.{Question}
+
+-- a number, as far as 64 bits count
+abbrev pub counted : ℕ → ℕ
+counted n = min n (2 ^ 64 - 1)
 
 -- how many slots instructions take
 abbrev pub slot_count : List Instruction → ℕ

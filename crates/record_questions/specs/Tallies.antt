@@ -50,7 +50,7 @@ IsGreatest xs x = Contains xs x × AllByRecursion (λ y. y ≤ x) xs
 
 -- Begun at 0, a tally of records is their number or the sum of a field, modulo 2^64, or the least or the greatest of a field. The
 -- word has the least subtracted from 2^64 - 1. Of no records, both words are 0.
-pub record TalliesAreTold : Type 0 where
+pub record TalliesAreTotals : Type 0 where
   pub count : (rs : List (List ℕ)) → AllByRecursion AreBytes rs → tally_from Count rs 0 ≡ length rs % 2 ^ 64
   pub sum : (f : Field) (rs : List (List ℕ)) → AllByRecursion AreBytes rs → tally_from (Sum f) rs 0 ≡ sum_by (number_in f) rs % 2 ^ 64
   pub least : (f : Field) (rs : List (List ℕ)) → AllByRecursion AreBytes rs → 1 ≤ length rs

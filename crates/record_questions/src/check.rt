@@ -9,7 +9,7 @@ use crate::question::{ByteRange, Field, Operand, Predicate, Question, Sign, Tall
 use instruction_set::Size;
 use program_interface::SCRATCH_BYTES;
 
-/// The number of bytes.
+/// `Size::bytes` as a `u16`, and that it is small, so that sums with it fit.
 pub(crate) fn bytes_of(size: Size) -> u16
     ensures value { result ≡ size_of size }
     ensures few { result ≤ 8 }
@@ -50,11 +50,11 @@ fn is_operand(bytes: u16, sign: Sign, operand: Operand) -> bool
     }
 }
 
-/// Do these bytes have room in a record of so many, from an offset on?
+/// Are these some bytes that have room in a record of so many, from an offset on?
 fn have_room(bytes: u16, offset: u16, these: &[u8]) -> bool
-    ensures { IsTrue result ↔ ((offset + length these.now ≤ bytes) × AreBytes these.now) }
+    ensures { IsTrue result ↔ ((1 ≤ length these.now) × (offset + length these.now ≤ bytes) × AreBytes these.now) }
 {
-    offset <= bytes && these.len() <= usize::from(bytes - offset)
+    !these.is_empty() && offset <= bytes && these.len() <= usize::from(bytes - offset)
 }
 
 /// Does what a predicate looks at lie in a record of so many bytes?
@@ -96,6 +96,7 @@ fn is_tallied(bytes: u16, field: Field) -> bool
     is_field(bytes, field) && field.sign == Sign::Unsigned
 }
 
+/// Can this be tallied of a record of so many bytes?
 fn is_tally(bytes: u16, tally: Tally) -> bool
     ensures { IsTrue result ↔ IsTally bytes tally }
 {
@@ -107,6 +108,7 @@ fn is_tally(bytes: u16, tally: Tally) -> bool
     }
 }
 
+/// Can each of these be tallied of a record of so many bytes?
 fn are_tallies(bytes: u16, tallies: &[Tally]) -> bool
     ensures { IsTrue result ↔ AreTallies bytes tallies.now }
 {
@@ -120,7 +122,9 @@ fn are_tallies(bytes: u16, tallies: &[Tally]) -> bool
 pub fn is_question(block: u32, question: &Question) -> bool
     ensures { IsTrue result ↔ IsQuestion block question.now }
 {
-    u32::from(question.first) + u32::from(question.count) * u32::from(question.size) <= block
+    1 <= question.size
+        && 1 <= question.count
+        && u32::from(question.first) + u32::from(question.count) * u32::from(question.size) <= block
         && is_predicate(question.size, &question.wanted)
         && is_range(question.size, question.emitted)
         && are_tallies(question.size, &question.tallies)

@@ -1,17 +1,18 @@
 //! The code that compares bytes.
 
-ghost use Rattle.std.specs.Prelude.{◌≡◌, ◌≤◌, ◌++◌, ◌+◌, pos, true, drop, length, IfOk, OnOk};
+ghost use Rattle.std.specs.Prelude.{◌≡◌, ◌<◌, ◌≤◌, ◌++◌, ◌+◌, ◌-◌, ◌^◌, pos, true, drop, length, OnOk};
 ghost use Rattle.instruction_set.specs.Instruction.{size_of};
-ghost use Rattle.record_questions.specs.Code.{bytes_code, bytes_slots, chunk_field, chunk_operand, chunk_size, chunk_sizes, chunks_code, chunks_slots, comparison_code, comparison_slots};
+ghost use Rattle.record_questions.specs.Asked.{IsField};
+ghost use Rattle.record_questions.specs.Code.{counted, bytes_code, bytes_slots, chunk_field, chunk_operand, chunk_size, chunk_sizes, chunks_code, chunks_slots, comparison_code, comparison_slots};
 ghost use Rattle.record_questions.specs.declared.question.Comparison.TheVariants.{Equal};
 
 use crate::check::bytes_of;
 use crate::comparing::{comparison_slots, push_comparison};
-use crate::emitting::{push, short, sum};
-use crate::fault::CodeFault;
+use crate::emitting::{push, short};
 use crate::question::{ByteOrder, Comparison, Field, Operand, Sign};
 use byteorder::{ByteOrder as _, LittleEndian};
 use instruction_set::{Instruction, Size};
+use std::alloc::AllocError;
 
 /// The widest chunk of so many bytes.
 fn chunk_size(count: usize) -> Size
@@ -30,6 +31,7 @@ fn chunk_size(count: usize) -> Size
     }
 }
 
+/// A chunk as a field of a record: unsigned, and the lowest byte first.
 fn chunk_field(size: Size, offset: u16) -> Field
     ensures { result ≡ chunk_field size offset }
 {
@@ -50,10 +52,15 @@ fn chunk_operand(size: Size, bytes: &[u8]) -> Operand
     Operand::Number(i128::from(number))
 }
 
-/// The bytes after a chunk.
+/// The bytes after the first chunk.
+#[tactic(auto, using(crate::proofs::ChunkSizes::slots_after))]
 fn after_chunk(size: Size, bytes: &[u8]) -> &[u8]
-    requires { size_of size ≤ length bytes.now }
-    ensures { result.now ≡ drop (size_of size) bytes.now }
+    requires some { 1 ≤ length bytes.now }
+    requires first { size ≡ chunk_size (length bytes.now) }
+    requires inside { size_of size ≤ length bytes.now }
+    ensures value { result.now ≡ drop (size_of size) bytes.now }
+    ensures slots { chunks_slots (chunk_sizes (length bytes.now)) bytes.now
+        ≡ comparison_slots (chunk_field size 0) (chunk_operand size bytes.now) + chunks_slots (chunk_sizes (length result.now)) result.now }
 {
     &bytes[usize::from(bytes_of(size))..]
 }
@@ -61,24 +68,27 @@ fn after_chunk(size: Size, bytes: &[u8]) -> &[u8]
 /// How many slots the comparison of a chunk takes.
 fn chunk_slots(size: Size, bytes: &[u8]) -> u64
     requires { size_of size ≤ length bytes.now }
-    ensures { result ≡ comparison_slots (chunk_field size 0) (chunk_operand size bytes.now) }
+    ensures value { result ≡ comparison_slots (chunk_field size 0) (chunk_operand size bytes.now) }
+    ensures few { result ≤ 7 }
 {
     comparison_slots(chunk_field(size, 0), chunk_operand(size, bytes))
 }
 
 /// How many slots the comparisons of all chunks take.
-fn chunks_slots(bytes: &[u8]) -> Result<u64, CodeFault>
-    ensures { IfOk result (λ n. n ≡ chunks_slots (chunk_sizes (length bytes.now)) bytes.now) }
+#[tactic(auto, using(crate::proofs::ChunkSizes::counted_next))]
+fn chunks_slots(bytes: &[u8]) -> u64
+    ensures { result ≡ counted (chunks_slots (chunk_sizes (length bytes.now)) bytes.now) }
 {
     if bytes.is_empty() {
-        return Ok(0);
+        return 0;
     }
     let size = chunk_size(bytes.len());
-    let rest = chunks_slots(after_chunk(size, bytes))?;
-    sum(chunk_slots(size, bytes), rest)
+    let rest = chunks_slots(after_chunk(size, bytes));
+    chunk_slots(size, bytes).saturating_add(rest)
 }
 
 /// Compares a chunk of the record at a byte of the block.
+#[tactic(auto, using(crate::proofs::Reach::chunk_near))]
 fn push_chunk(
     code: &mut Vec<Instruction>,
     byte: u32,
@@ -86,8 +96,10 @@ fn push_chunk(
     size: Size,
     bytes: &[u8],
     skip: u64,
-) -> Result<(), CodeFault>
-    requires { size_of size ≤ length bytes.now }
+) -> Result<(), AllocError>
+    requires inside { size_of size ≤ length bytes.now }
+    requires near { offset + size_of size ≤ 2 ^ 15 - byte }
+    requires skip { skip < 2 ^ 15 }
     ensures { OnOk result (code.new.items ≡ code.old.items
         ++ comparison_code byte true (chunk_field size offset) Equal (chunk_operand size bytes.now) skip) }
 {
@@ -103,7 +115,9 @@ fn push_chunks(
     offset: u16,
     bytes: &[u8],
     skip: u64,
-) -> Result<(), CodeFault>
+) -> Result<(), AllocError>
+    requires near { offset + length bytes.now ≤ 2 ^ 15 - byte }
+    requires room { chunks_slots (chunk_sizes (length bytes.now)) bytes.now + skip < 2 ^ 15 }
     ensures { OnOk result (code.new.items
         ≡ code.old.items ++ chunks_code byte offset (chunk_sizes (length bytes.now)) bytes.now skip) }
 {
@@ -112,20 +126,21 @@ fn push_chunks(
     }
     let size = chunk_size(bytes.len());
     let rest = after_chunk(size, bytes);
-    let further = sum(chunks_slots(rest)?, skip)?;
+    let further = chunks_slots(rest) + skip;
     push_chunk(code, byte, offset, size, bytes, further)?;
-    match offset.checked_add(bytes_of(size)) {
-        Some(next) => push_chunks(code, byte, next, rest, skip),
-        None => Err(CodeFault::Number),
-    }
+    push_chunks(code, byte, offset + bytes_of(size), rest, skip)
 }
 
 /// How many slots a test of bytes takes.
-pub(crate) fn bytes_slots(goes_on: bool, bytes: &[u8]) -> Result<u64, CodeFault>
-    ensures { IfOk result (λ n. n ≡ bytes_slots goes_on bytes.now) }
+pub(crate) fn bytes_slots(goes_on: bool, bytes: &[u8]) -> u64
+    ensures { result ≡ counted (bytes_slots goes_on bytes.now) }
 {
-    let slots = chunks_slots(bytes)?;
-    if goes_on { Ok(slots) } else { sum(slots, 1) }
+    let slots = chunks_slots(bytes);
+    if goes_on {
+        slots
+    } else {
+        slots.saturating_add(1)
+    }
 }
 
 /// Of the record at a byte of the block: after this code the program goes on where the record has these bytes from an offset on
@@ -137,14 +152,16 @@ pub(crate) fn push_bytes(
     offset: u16,
     bytes: &[u8],
     skip: u64,
-) -> Result<(), CodeFault>
+) -> Result<(), AllocError>
+    requires near { offset + length bytes.now ≤ 2 ^ 15 - byte }
+    requires room { bytes_slots goes_on bytes.now + skip < 2 ^ 15 }
     ensures { OnOk result (code.new.items ≡ code.old.items ++ bytes_code byte goes_on offset bytes.now skip) }
 {
     if goes_on {
         push_chunks(code, byte, offset, bytes, skip)
     } else {
         push_chunks(code, byte, offset, bytes, 1)?;
-        let distance = short(skip)?;
+        let distance = short(skip);
         push(code, Instruction::Jump { distance })?;
         Ok(())
     }

@@ -1,23 +1,28 @@
 //! The instructions of a question.
 
-ghost use Rattle.std.specs.Prelude.{◌≡◌, ◌++◌, pos, ◌+◌, IfOk, OnOk};
-ghost use Rattle.record_questions.specs.Code.{emit_code, match_code, match_slots, question_code, range_code, range_slots, record_code, records_code, start_code};
+ghost use Rattle.std.specs.Prelude.{◌≡◌, ◌<◌, ◌≤◌, ◌++◌, ◌^◌, pos, true, ◌+◌, length, IfErr, IfOk, OnOk};
+ghost use Rattle.program_interface.specs.declared.TheConstants.{MOST_SLOTS};
+ghost use Rattle.program_interface.specs.declared.block_size.TheConstants.{LARGEST_BLOCK};
+ghost use Rattle.record_questions.specs.Asked.{IsQuestion};
+ghost use Rattle.record_questions.specs.Code.{counted, emit_code, match_code, match_slots, question_code, question_program, range_code, range_slots, record_code, records_code, start_code, test_slots};
+ghost use Rattle.record_questions.specs.Fault.{IsCodeFaultOf};
 
-use crate::emitting::{arithmetic, from_register, load, long, push, sum};
+use crate::emitting::{arithmetic, from_register, load, long, push};
 use crate::fault::CodeFault;
 use crate::question::{ByteRange, Question};
 use crate::tallying::{push_tallies, tallies_slots};
-use crate::testing::push_test;
+use crate::testing::{push_test, test_slots};
 use instruction_set::{Instruction, Operation, Size, Source};
-use program_interface::EMIT;
+use program_interface::{EMIT, MOST_SLOTS};
 use std::alloc::{AllocError, Global};
 
 /// Emits so many bytes from one of the block on.
-fn push_emit(code: &mut Vec<Instruction>, at: u64, size: u16) -> Result<(), CodeFault>
+fn push_emit(code: &mut Vec<Instruction>, at: u64, size: u16) -> Result<(), AllocError>
+    requires { at < 2 ^ 31 }
     ensures { OnOk result (code.new.items ≡ code.old.items ++ emit_code at size) }
 {
-    let at = Source::Immediate(long(at)?);
-    let size = Source::Immediate(long(u64::from(size))?);
+    let at = Source::Immediate(long(at));
+    let size = Source::Immediate(long(u64::from(size)));
     push(code, arithmetic(Operation::Move, 1, from_register(6)))?;
     push(code, arithmetic(Operation::Add, 1, at))?;
     push(code, arithmetic(Operation::Move, 2, size))?;
@@ -30,7 +35,8 @@ fn push_range(
     code: &mut Vec<Instruction>,
     byte: u32,
     range: Option<ByteRange>,
-) -> Result<(), CodeFault>
+) -> Result<(), AllocError>
+    requires { byte ≤ 2 ^ 15 }
     ensures { OnOk result (code.new.items ≡ code.old.items ++ range_code byte range) }
 {
     match range {
@@ -40,28 +46,46 @@ fn push_range(
 }
 
 /// How many slots are taken by what is done of a record that matches.
-fn match_slots(question: &Question) -> Result<u64, CodeFault>
-    ensures { IfOk result (λ n. n ≡ match_slots question.now) }
+fn match_slots(question: &Question) -> u64
+    ensures { result ≡ counted (match_slots question.now) }
 {
     let emitted = match question.emitted {
         None => 0,
         Some(_) => 4,
     };
-    sum(tallies_slots(&question.tallies)?, emitted)
+    tallies_slots(&question.tallies).saturating_add(emitted)
+}
+
+/// How many slots are jumped over where a record doesn't match.
+fn match_skip(question: &Question) -> u64
+    requires { match_slots question.now < 2 ^ 15 }
+    ensures { result ≡ match_slots question.now }
+{
+    match_slots(question)
 }
 
 /// The code of the record at a byte of the block.
-fn push_record(code: &mut Vec<Instruction>, question: &Question, byte: u32) -> Result<(), CodeFault>
+#[tactic(auto, using(crate::proofs::Reach::predicate_near, crate::proofs::Reach::tallies_near))]
+fn push_record(
+    code: &mut Vec<Instruction>,
+    question: &Question,
+    byte: u32,
+) -> Result<(), AllocError>
+    requires asked { IsQuestion LARGEST_BLOCK question.now }
+    requires inside { byte + question.now.size ≤ LARGEST_BLOCK }
+    requires room { test_slots true question.now.wanted + match_slots question.now < 2 ^ 15 }
     ensures { OnOk result (code.new.items ≡ code.old.items ++ record_code question.now byte) }
 {
-    push_test(code, byte, true, &question.wanted, match_slots(question)?)?;
+    push_test(code, byte, true, &question.wanted, match_skip(question))?;
     push_tallies(code, byte, &question.tallies)?;
     push_range(code, byte, question.emitted)
 }
 
 /// The code of all records.
-#[tactic(auto, using(crate::proofs::Loops::next_record))]
-fn push_records(code: &mut Vec<Instruction>, question: &Question) -> Result<(), CodeFault>
+#[tactic(auto, using(crate::proofs::Loops::next_record, crate::proofs::Reach::record_inside))]
+fn push_records(code: &mut Vec<Instruction>, question: &Question) -> Result<(), AllocError>
+    requires asked { IsQuestion LARGEST_BLOCK question.now }
+    requires room { test_slots true question.now.wanted + match_slots question.now < 2 ^ 15 }
     ensures { OnOk result (code.new.items ≡ code.old.items ++ records_code question.now question.now.count question.now.first) }
 {
     for index in 0..question.count {
@@ -80,14 +104,33 @@ fn push_start(code: &mut Vec<Instruction>) -> Result<(), AllocError>
     push(code, arithmetic(Operation::Move, 7, from_register(3)))
 }
 
+/// How many slots the program of a question takes.
+#[tactic(auto, using(crate::proofs::Counts::all_counted))]
+fn program_slots(question: &Question) -> u64
+    ensures { result ≡ counted (length (question_program question.now)) }
+{
+    let record = test_slots(true, &question.wanted).saturating_add(match_slots(question));
+    u64::from(question.count)
+        .saturating_mul(record)
+        .saturating_add(4)
+}
+
 /// The instructions of a question.
 ///
 /// # Errors
 ///
-/// A number of it doesn't fit an instruction, as where a jump would be too long, or there is no memory.
+/// They take more slots than a program can have, or there is no memory.
+#[tactic(auto, using(crate::proofs::Counts::room_left))]
 pub fn instructions(alloc: Global, question: &Question) -> Result<Vec<Instruction>, CodeFault>
-    ensures { IfOk result (λ code. code.items ≡ question_code question.now) }
+    requires { IsQuestion LARGEST_BLOCK question.now }
+    ensures made { IfOk result (λ code. code.items ≡ question_code question.now) }
+    ensures short { IfOk result (λ code. length (question_program question.now) ≤ MOST_SLOTS) }
+    ensures failed { IfErr result (IsCodeFaultOf question.now) }
 {
+    let slots = program_slots(question);
+    if slots > MOST_SLOTS as u64 {
+        return Err(CodeFault::TooLong(slots));
+    }
     let mut code = Vec::new(alloc);
     push_start(&mut code)?;
     push_records(&mut code, question)?;

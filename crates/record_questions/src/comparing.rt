@@ -1,13 +1,14 @@
 //! The code that compares a field.
 
-ghost use Rattle.std.specs.Prelude.{◌≡◌, ◌≤◌, ◌++◌, pos, ◌+◌, OnOk};
+ghost use Rattle.std.specs.Prelude.{◌≡◌, ◌<◌, ◌≤◌, ◌++◌, ◌-◌, ◌^◌, pos, ◌+◌, OnOk};
+ghost use Rattle.record_questions.specs.Asked.{IsField, IsOperand};
 ghost use Rattle.record_questions.specs.Code.{comparison_code, comparison_slots, jump_of, jump_where, opposite};
 
 use crate::emitting::{push, short};
-use crate::fault::CodeFault;
 use crate::loads::{field_slots, operand_slots, push_field, push_operand, source_of};
 use crate::question::{Comparison, Field, Operand, Sign};
 use instruction_set::{Instruction, Register, Relation, Width};
+use std::alloc::AllocError;
 
 /// The comparison that holds where this one doesn't.
 fn opposite(comparison: Comparison) -> Comparison
@@ -54,7 +55,8 @@ fn jump_of(sign: Sign, goes_on: bool, comparison: Comparison) -> Relation
 
 /// How many slots a comparison takes.
 pub(crate) fn comparison_slots(field: Field, operand: Operand) -> u64
-    ensures { result ≡ comparison_slots field operand }
+    ensures value { result ≡ comparison_slots field operand }
+    ensures few { result ≤ 7 }
 {
     field_slots(field) + (operand_slots(operand) + 1)
 }
@@ -69,12 +71,15 @@ pub(crate) fn push_comparison(
     comparison: Comparison,
     operand: Operand,
     skip: u64,
-) -> Result<(), CodeFault>
+) -> Result<(), AllocError>
+    requires field { IsField (2 ^ 15 - byte) field }
+    requires operand { IsOperand (2 ^ 15 - byte) field.sign operand }
+    requires skip { skip < 2 ^ 15 }
     ensures { OnOk result (code.new.items ≡ code.old.items ++ comparison_code byte goes_on field comparison operand skip) }
 {
     push_field(code, 4, byte, field)?;
-    push_operand(code, byte, operand)?;
-    let distance = short(skip)?;
+    push_operand(code, byte, field.sign, operand)?;
+    let distance = short(skip);
     push(
         code,
         Instruction::Branch {

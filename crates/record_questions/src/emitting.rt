@@ -1,8 +1,7 @@
 //! Single instructions, and the numbers in them.
 
-ghost use Rattle.std.specs.Prelude.{◌≡◌, ◌<◌, ◌∷◌, ◌++◌, [], pos, ◌+◌, IfOk, OnOk};
+ghost use Rattle.std.specs.Prelude.{◌≡◌, ◌<◌, ◌^◌, ◌∷◌, ◌++◌, [], pos, OnOk};
 
-use crate::fault::CodeFault;
 use instruction_set::{Instruction, Operation, Register, Size, Source, Width};
 use std::alloc::AllocError;
 
@@ -14,35 +13,19 @@ pub(crate) fn push(code: &mut Vec<Instruction>, instruction: Instruction) -> Res
 }
 
 /// A number as an offset or a distance.
-pub(crate) fn short(number: u64) -> Result<i16, CodeFault>
-    ensures { IfOk result (λ z. z ≡ pos number) }
+pub(crate) fn short(number: u64) -> i16
+    requires { number < 2 ^ 15 }
+    ensures { result ≡ pos number }
 {
-    if number < 0x8000 {
-        Ok(number as i16)
-    } else {
-        Err(CodeFault::Number)
-    }
+    number as i16
 }
 
 /// A number as an immediate.
-pub(crate) fn long(number: u64) -> Result<i32, CodeFault>
-    ensures { IfOk result (λ z. z ≡ pos number) }
+pub(crate) fn long(number: u64) -> i32
+    requires { number < 2 ^ 31 }
+    ensures { result ≡ pos number }
 {
-    if number < 0x8000_0000 {
-        Ok(number as i32)
-    } else {
-        Err(CodeFault::Number)
-    }
-}
-
-/// The sum of two numbers of slots.
-pub(crate) fn sum(first: u64, second: u64) -> Result<u64, CodeFault>
-    ensures { IfOk result (λ n. n ≡ first + second) }
-{
-    match first.checked_add(second) {
-        Some(n) => Ok(n),
-        None => Err(CodeFault::Number),
-    }
+    number as i32
 }
 
 /// A 64-bit operation.

@@ -1,7 +1,7 @@
 //! Laws of the definitions. Each function does nothing: what it ensures is the law.
 
 ghost use Rattle.record_questions.specs.Laws.{AnswersBlocks};
-ghost use Rattle.record_questions.specs.Tallies.{TalliesAreTold, WordsAreTallied};
+ghost use Rattle.record_questions.specs.Tallies.{TalliesAreTotals, WordsAreTallied};
 
 /// Over every block of the length, every context and every scratch, a question's program that never traps emits the answer, a frame for
 /// each record that matches, in order, and tallies these records in scratch.
@@ -15,6 +15,6 @@ pub fn words_are_tallied()
 {}
 
 /// Begun at 0, a tally is the number of the records or the sum of a field, modulo 2^64, or the least or the greatest of a field.
-pub fn tallies_are_told()
-    ensures { TalliesAreTold }
+pub fn tallies_are_totals()
+    ensures { TalliesAreTotals }
 {}

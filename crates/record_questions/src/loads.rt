@@ -1,13 +1,14 @@
 //! The code that loads fields and operands.
 
-ghost use Rattle.std.specs.Prelude.{◌≡◌, ◌<◌, ◌≤◌, ◌∷◌, ◌++◌, [], pos, ◌+◌, IfOk, OnOk};
+ghost use Rattle.std.specs.Prelude.{◌≡◌, ◌<◌, ◌≤◌, ◌-◌, ◌^◌, ◌∷◌, ◌++◌, [], pos, OnOk};
 ghost use Rattle.std.specs.Int.{w64, cast_unsigned};
+ghost use Rattle.record_questions.specs.Asked.{IsField, IsNumber, IsOperand};
 ghost use Rattle.record_questions.specs.Code.{extension_of, field_code, field_slots, is_immediate, operand_code, operand_slots, source_of, swap_of};
 
 use crate::emitting::{from_register, load, push, short};
-use crate::fault::CodeFault;
 use crate::question::{ByteOrder, Field, Operand, Sign};
 use instruction_set::{Instruction, Register, SignExtension, Size, Source, Swap, SwapSize};
+use std::alloc::AllocError;
 
 /// Which bytes of a loaded number are to be put in the other order.
 fn swap_of(order: ByteOrder, size: Size) -> Option<SwapSize>
@@ -51,16 +52,18 @@ pub(crate) fn field_slots(field: Field) -> u64
 }
 
 /// Loads a field of the record at a byte of the block into a register.
+#[tactic(auto, using(crate::proofs::Reach::field_near))]
 pub(crate) fn push_field(
     code: &mut Vec<Instruction>,
     register: u8,
     byte: u32,
     field: Field,
-) -> Result<(), CodeFault>
-    requires { register < 11 }
+) -> Result<(), AllocError>
+    requires register { register < 11 }
+    requires near { IsField (2 ^ 15 - byte) field }
     ensures { OnOk result (code.new.items ≡ code.old.items ++ field_code register byte field) }
 {
-    let offset = short(u64::from(byte) + u64::from(field.offset))?;
+    let offset = short(u64::from(byte) + u64::from(field.offset));
     push(code, load(field.size, register, 6, offset))?;
     let register = Register::from_number(register);
     if let Some(size) = swap_of(field.order, field.size) {
@@ -94,15 +97,13 @@ fn is_immediate(number: i128) -> bool
 }
 
 /// A number as a word of 64 bits.
-fn word(number: i128) -> Result<u64, CodeFault>
-    ensures { IfOk result (λ n. n ≡ cast_unsigned w64 number) }
+fn word(sign: Sign, number: i128) -> u64
+    requires { IsNumber sign number }
+    ensures { result ≡ cast_unsigned w64 number }
 {
-    if 0 <= number && number < 0x1_0000_0000_0000_0000 {
-        Ok(number as u64)
-    } else if -0x8000_0000_0000_0000 <= number && number < 0 {
-        Ok((number as i64).cast_unsigned())
-    } else {
-        Err(CodeFault::Number)
+    match sign {
+        Sign::Unsigned => number as u64,
+        Sign::Signed => (number as i64).cast_unsigned(),
     }
 }
 
@@ -135,12 +136,14 @@ pub(crate) fn source_of(operand: Operand) -> Source
     }
 }
 
-/// Loads an operand, of the record at a byte of the block, into R5 where it has to be there.
+/// Loads an operand of a field of this sign, of the record at a byte of the block, into R5 where it has to be there.
 pub(crate) fn push_operand(
     code: &mut Vec<Instruction>,
     byte: u32,
+    sign: Sign,
     operand: Operand,
-) -> Result<(), CodeFault>
+) -> Result<(), AllocError>
+    requires { IsOperand (2 ^ 15 - byte) sign operand }
     ensures { OnOk result (code.new.items ≡ code.old.items ++ operand_code byte operand) }
 {
     match operand {
@@ -148,7 +151,7 @@ pub(crate) fn push_operand(
             if is_immediate(number) {
                 Ok(())
             } else {
-                let value = word(number)?;
+                let value = word(sign, number);
                 push(
                     code,
                     Instruction::LoadImmediate {

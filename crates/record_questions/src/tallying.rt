@@ -1,15 +1,17 @@
 //! The code that tallies a record that matches.
 
-ghost use Rattle.std.specs.Prelude.{◌≡◌, ◌≤◌, ◌<◌, ◌∷◌, ◌++◌, [], pos, ◌+◌, IfOk, OnOk};
-ghost use Rattle.record_questions.specs.Code.{change_code, change_slots, tallies_code, tallies_slots, tally_code, taken_code, taken_slots};
+ghost use Rattle.std.specs.Prelude.{◌≡◌, ◌≤◌, ◌<◌, ◌-◌, ◌*◌, ◌^◌, ◌∷◌, ◌++◌, [], length, pos, ◌+◌, OnOk};
+ghost use Rattle.program_interface.specs.declared.area.TheConstants.{SCRATCH_BYTES};
+ghost use Rattle.record_questions.specs.Asked.{AreTallies, IsTally};
+ghost use Rattle.record_questions.specs.Code.{counted, change_code, change_slots, tallies_code, tallies_slots, tally_code, taken_code, taken_slots};
 
-use crate::emitting::{arithmetic, from_register, load, push, short, sum};
-use crate::fault::CodeFault;
+use crate::emitting::{arithmetic, from_register, load, push, short};
 use crate::loads::{field_slots, push_field};
 use crate::question::Tally;
 use instruction_set::{Instruction, Operation, Register, Relation, Size, Source, Width};
 use std::alloc::AllocError;
 
+/// How many slots it takes to have the number that a tally takes of a record.
 fn taken_slots(tally: Tally) -> u64
     ensures value { result ≡ taken_slots tally }
     ensures few { result ≤ 5 }
@@ -22,6 +24,7 @@ fn taken_slots(tally: Tally) -> u64
     }
 }
 
+/// How many slots it takes to change a tally's word.
 fn change_slots(tally: Tally) -> u64
     ensures value { result ≡ change_slots tally }
     ensures few { result ≤ 2 }
@@ -33,18 +36,19 @@ fn change_slots(tally: Tally) -> u64
 }
 
 /// How many slots the tallies of a record take.
-pub(crate) fn tallies_slots(tallies: &[Tally]) -> Result<u64, CodeFault>
-    ensures { IfOk result (λ n. n ≡ tallies_slots tallies.now) }
+pub(crate) fn tallies_slots(tallies: &[Tally]) -> u64
+    ensures { result ≡ counted (tallies_slots tallies.now) }
 {
-    let mut slots = 0;
+    let mut slots: u64 = 0;
     for tally in tallies {
-        slots = sum(slots, taken_slots(*tally) + (change_slots(*tally) + 2))?;
+        slots = slots.saturating_add(taken_slots(*tally) + (change_slots(*tally) + 2));
     }
-    Ok(slots)
+    slots
 }
 
 /// The number that a tally takes of the record at a byte of the block, in R5.
-fn push_taken(code: &mut Vec<Instruction>, byte: u32, tally: Tally) -> Result<(), CodeFault>
+fn push_taken(code: &mut Vec<Instruction>, byte: u32, tally: Tally) -> Result<(), AllocError>
+    requires { IsTally (2 ^ 15 - byte) tally }
     ensures { OnOk result (code.new.items ≡ code.old.items ++ taken_code byte tally) }
 {
     match tally {
@@ -94,11 +98,13 @@ fn push_tally(
     byte: u32,
     at: u64,
     tally: Tally,
-) -> Result<(), CodeFault>
+) -> Result<(), AllocError>
+    requires near { IsTally (2 ^ 15 - byte) tally }
+    requires at { at < 2 ^ 15 }
     ensures { OnOk result (code.new.items ≡ code.old.items ++ tally_code byte at tally) }
 {
     push_taken(code, byte, tally)?;
-    let offset = short(at)?;
+    let offset = short(at);
     push(code, load(Size::DoubleWord, 4, 7, offset))?;
     push_change(code, tally)?;
     push(
@@ -118,13 +124,15 @@ pub(crate) fn push_tallies(
     code: &mut Vec<Instruction>,
     byte: u32,
     tallies: &[Tally],
-) -> Result<(), CodeFault>
+) -> Result<(), AllocError>
+    requires near { AreTallies (2 ^ 15 - byte) tallies.now }
+    requires few { 8 * length tallies.now ≤ SCRATCH_BYTES }
     ensures { OnOk result (code.new.items ≡ code.old.items ++ tallies_code byte 0 tallies.now) }
 {
     let mut at = 0;
     for tally in tallies {
         push_tally(code, byte, at, *tally)?;
-        at = sum(at, 8)?;
+        at += 8;
     }
     Ok(())
 }

@@ -1,0 +1,52 @@
+-- What Result gives of a question: a word for each of its tallies.
+use Rattle.std.specs.Prelude.{ℕ, ◌≡◌, ◌-◌, ◌*◌, ◌<◌, ◌%◌, ◌^◌, List, [], ◌∷◌, length, get_or, map}
+use Rattle.std.specs.List.{flat_map, sum_by}
+use Rattle.common_definitions.specs.Bytes.{field}
+use Rattle.nvme_entry.specs.declared.command.RunCommand.{RunCommand}
+use Rattle.device_meaning.specs.Admission.{source_blocks}
+use Rattle.device_meaning.specs.BlockRuns.{no_scratch}
+use Rattle.device_meaning.specs.Judging.{interval_judge}
+use Rattle.device_meaning.specs.Reached.{IsReached}
+use Rattle.device_meaning.specs.State.{State}
+use Rattle.record_questions.specs.Asked.{IsQuestion}
+use Rattle.record_questions.specs.Question.{matching, number_in}
+use Rattle.record_questions.specs.Tallies.{IsGreatest, IsLeast, tallied_of, tally_from}
+use Rattle.record_questions.specs.declared.question.Tally.{Tally}
+use Rattle.record_questions.specs.declared.question.Tally.TheVariants.{Count, Sum, Least, Greatest}
+use Rattle.record_questions.specs.declared.question.Question.{Question}
+
+-- the records of blocks that match, in order
+abbrev pub matches_of : Question → ℕ → List (List ℕ) → List (List ℕ)
+matches_of q argument blocks = flat_map (matching q argument) blocks
+
+-- scratch of zeros, with all these records tallied
+abbrev pub tallies_of : Question → ℕ → List (List ℕ) → List ℕ
+tallies_of q argument blocks = tallied_of q (matches_of q argument blocks) no_scratch
+
+-- A word is what a tally of records comes to: their number or the sum of a field, modulo 2^64, or the least or the greatest of a
+-- field. The word of a least is 2^64 - 1 minus the least. Of no records both are 0.
+abbrev pub ComesTo : Tally → List (List ℕ) → ℕ → Type 0
+ComesTo Count rs word = word ≡ length rs % 2 ^ 64
+ComesTo (Sum f) rs word = word ≡ sum_by (number_in f) rs % 2 ^ 64
+ComesTo (Least f) [] word = word ≡ 0
+ComesTo (Least f) (r ∷ rs) word = IsLeast (map (number_in f) (r ∷ rs)) (2 ^ 64 - 1 - word)
+ComesTo (Greatest f) [] word = word ≡ 0
+ComesTo (Greatest f) (r ∷ rs) word = IsGreatest (map (number_in f) (r ∷ rs)) word
+
+-- a word that is so, and that the steps of the tally make of 0, record by record
+pub record IsWordOf (t : Tally) (rs : List (List ℕ)) (word : ℕ) : Type 0 where
+  pub tallied : word ≡ tally_from t rs 0
+  pub comes_to : ComesTo t rs word
+
+-- word i of these bytes, counted from 0, is that of tally i of a question, over these records
+abbrev pub HasWords : Question → List (List ℕ) → List ℕ → Type 0
+HasWords q rs bytes =
+    (i : ℕ) → i < length q.tallies.items → IsWordOf (get_or q.tallies.items i Count) rs (field bytes (8 * i) 8)
+
+-- A device is in a state that events leave, a question can be asked of its blocks, and a Run names some of them. Then word i of the
+-- tallies is what tally i asks for: the number of the records that match, or the sum, the least or the greatest of a field of them.
+abbrev pub ResultsHaveWords : Type 0
+ResultsHaveWords =
+    (s : State) (command : RunCommand) (q : Question) → IsReached interval_judge s → IsQuestion s.namespace.block q
+    → let source = source_blocks s.namespace command in
+    HasWords q (matches_of q command.argument source) (tallies_of q command.argument source)

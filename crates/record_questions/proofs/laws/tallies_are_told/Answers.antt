@@ -1,5 +1,0 @@
-use Rattle.record_questions.proofs.Words.{tallies_are_told}
-use Rattle.record_questions.proofs.laws.tallies_are_told.Goals as goal
-
-pub returns : goal.returns
-returns c = tallies_are_told
