@@ -1,7 +1,8 @@
 -- A condition that is printed is read again.
-use Rattle.std.proofs.Common.{◌≡◌, ℕ, ◌<◌, ◌^◌, Bool, true, false, cond, eqb, List, [], ◌∷◌, ◌++◌, length, get_or, Some, Result, Ok, Err, refl, sym, ap, ◌∙◌, codes, append_assoc, arith}
+use Rattle.std.proofs.Common.{◌≡◌, ℕ, ◌<◌, ◌≤◌, ◌^◌, Bool, true, false, cond, eqb, List, [], ◌∷◌, ◌++◌, length, get_or, Some, Result, Ok, Err, refl, sym, ap, ◌∙◌, codes, append_assoc, arith}
 use Rattle.std.specs.Fmt.{decimal}
-use Rattle.std.proofs.lemmas.Bool.{le-ltb, ne_eqb}
+use Rattle.std.specs.List.{list_all}
+use Rattle.std.proofs.lemmas.Bool.{and_parts, le-ltb, ne_eqb}
 use Rattle.std.proofs.lemmas.List.{append-nil}
 use Rattle.hex.specs.Hex.{IsBytes, decode_of, encode_lower, lower_digits}
 use Rattle.hex.proofs.HexLemmas.{decode_of-encode_lower, length-encode_with}
@@ -12,6 +13,7 @@ use Rattle.record_questions.specs.declared.question.Comparison.{Comparison}
 use Rattle.record_questions.specs.declared.question.Comparison.TheVariants.{Equal, NotEqual, Less, LessOrEqual, Greater, GreaterOrEqual}
 use Rattle.record_questions.specs.declared.question.Operand.{Operand}
 use Rattle.common_definitions.specs.Readings.{◌>>=◌}
+use Rattle.text_lines.specs.Cut.{cut_at}
 use Rattle.question_words.specs.declared.fault.FaultKind.{FaultKind}
 use Rattle.question_words.specs.declared.fault.FaultKind.TheVariants as kinds
 use Rattle.question_words.specs.declared.fault.WordFault.{WordFault}
@@ -20,12 +22,14 @@ use Rattle.question_words.specs.Condition.{Condition, Compare, Bytes, And, Or, N
 use Rattle.question_words.specs.Cutting.{Cut, cuts, is_word_byte, width}
 use Rattle.question_words.specs.Fault.{at, refused}
 use Rattle.question_words.specs.Field.{field_of, field_text, shape_text, sign_letter}
-use Rattle.question_words.specs.Laws.{IsCondition, IsField, IsOperand, WordsReadBack}
+use Rattle.question_words.specs.Laws.{IsCondition, IsField, IsOperand, NamesRead, OtherBytesRead, WordsHavePrecedence, WordsReadBack, named_text, other_bytes_text, row_text}
+use Rattle.question_words.specs.Layout.{field_named}
+use Rattle.question_words.specs.LayoutText.{is_field_name}
 use Rattle.question_words.specs.Operand.{comparison_text, operand_word}
 use Rattle.question_words.specs.Printing.{condition_text, part_text}
-use Rattle.question_words.specs.Reading.{Against, AgainstBytes, BytesCompared, Both, Compared, Either, Open, Opposite, Parenthesis, Stage, State, Wanted, Whole, at_start, condition_of, decoded, joined, next, read_words, settled, step, subject_in, subject_of, wanted}
+use Rattle.question_words.specs.Reading.{Against, AgainstBytes, BytesCompared, Both, Compared, Either, Open, Opposite, Parenthesis, Stage, State, Wanted, Whole, at_start, bytes_condition, condition_of, decoded, joined, next, read_words, settled, step, subject_in, subject_of, wanted, with_either}
 use Rattle.question_words.proofs.FirstWords.{cuts_none, cuts_word, word_width}
-use Rattle.question_words.proofs.WordsAgain.{IsWord, cut_field, cut_there, field_again, field_is_word, no_blank, no_symbol, offset_again, operand_again, operand_is_word, word_decimal, word_hex}
+use Rattle.question_words.proofs.WordsAgain.{IsWord, cut_field, cut_name, cut_there, field_again, field_is_word, name_again, name_is_word, no_blank, no_symbol, offset_again, operand_again, operand_is_word, word_decimal, word_hex}
 
 module _ (layout : List (List ℕ × Field)) (bytes : ℕ) where
   -- what a text makes of what is read so far
@@ -146,28 +150,54 @@ module _ (layout : List (List ℕ × Field)) (bytes : ℕ) where
   some_digits : (bs : List ℕ) → 0 < length bs → eqb (length (encode_lower bs)) 0 ≡ false
   some_digits bs some = let twice = length-encode_with lower_digits bs in ne_eqb (length (encode_lower bs)) 0 (omega (arith, twice, some))
 
-  digits_step : (offset : ℕ) (bs : List ℕ) (before : List Open) → IsBytes bs → 0 < length bs → (column : ℕ)
-      → step layout column (codes "0x" ++ encode_lower bs) (record { stage = AgainstBytes offset true; before = before }) ≡ Ok (settled before (Bytes offset bs))
-  digits_step offset bs before small some column =
-      ap (λ (b : Bool). at column (cond b (Err kinds.Bytes) (decoded (decode_of (encode_lower bs)))) >>= λ found. Ok (settled before (Bytes offset found))) (some_digits bs some)
-      ∙ ap (λ r. at column (decoded r) >>= λ found. Ok (settled before (Bytes offset found))) (decode_of-encode_lower bs small)
+  digits_step : (offset : ℕ) (there : Bool) (bs : List ℕ) (before : List Open) → IsBytes bs → 0 < length bs → (column : ℕ)
+      → step layout column (codes "0x" ++ encode_lower bs) (record { stage = AgainstBytes offset there; before = before }) ≡ Ok (settled before (bytes_condition offset there bs))
+  digits_step offset there bs before small some column =
+      ap (λ (b : Bool). at column (cond b (Err kinds.Bytes) (decoded (decode_of (encode_lower bs)))) >>= λ found. Ok (settled before (bytes_condition offset there found))) (some_digits bs some)
+      ∙ ap (λ r. at column (decoded r) >>= λ found. Ok (settled before (bytes_condition offset there found))) (decode_of-encode_lower bs small)
 
-  bytes_goes : (offset : ℕ) (bs : List ℕ) → offset < 2 ^ 16 → IsBytes bs → 0 < length bs → (r : List ℕ) → is_word_byte (get_or r 0 0) ≡ false → (before : List Open)
-      → reading ((codes "bytes@" ++ decimal offset) ++ (codes " == " ++ ((codes "0x" ++ encode_lower bs) ++ r))) (record { stage = Wanted; before = before }) ≡ reading r (settled before (Bytes offset bs))
-  bytes_goes offset bs small each some r end before =
+  -- `==` where the bytes are to be there, else `!=`
+  there_text : Bool → List ℕ
+  there_text true = codes "=="
+  there_text false = codes "!="
+
+  there_some : (there : Bool) → 0 < length (there_text there)
+  unfolding there_text
+  there_some true = omega arith
+  there_some false = omega arith
+
+  there_width : (there : Bool) (r : List ℕ) → width (there_text there ++ 32 ∷ r) ≡ length (there_text there)
+  unfolding there_text
+  there_width true r = refl
+  there_width false r = refl
+
+  there_step : (offset : ℕ) (there : Bool) (before : List Open) (column : ℕ)
+      → step layout column (there_text there) (record { stage = BytesCompared offset; before = before }) ≡ Ok (record { stage = AgainstBytes offset there; before = before })
+  unfolding there_text
+  there_step offset true before column = refl
+  there_step offset false before column = refl
+
+  -- bytes, and the text behind them
+  bytes_shown : ℕ → Bool → List ℕ → List ℕ → List ℕ
+  bytes_shown offset there bs r = (codes "bytes@" ++ decimal offset) ++ (32 ∷ (there_text there ++ (32 ∷ ((codes "0x" ++ encode_lower bs) ++ r))))
+
+  bytes_goes : (offset : ℕ) (there : Bool) (bs : List ℕ) → offset < 2 ^ 16 → IsBytes bs → 0 < length bs → (r : List ℕ) → is_word_byte (get_or r 0 0) ≡ false → (before : List Open)
+      → reading (bytes_shown offset there bs r) (record { stage = Wanted; before = before }) ≡ reading r (settled before (bytes_condition offset there bs))
+  unfolding bytes_shown
+  bytes_goes offset there bs small each some r end before =
       let word = bytes_word offset small in
-      goes_on (codes "bytes@" ++ decimal offset) (codes " == " ++ ((codes "0x" ++ encode_lower bs) ++ r)) _ _ word.some (word_width (codes "bytes@" ++ decimal offset) _ word.all word.some refl) (bytes_step offset before small)
+      goes_on (codes "bytes@" ++ decimal offset) (32 ∷ (there_text there ++ (32 ∷ ((codes "0x" ++ encode_lower bs) ++ r)))) _ _ word.some (word_width (codes "bytes@" ++ decimal offset) _ word.all word.some refl) (bytes_step offset before small)
       ∙ blank _ _
-      ∙ goes_on (codes "==") (32 ∷ ((codes "0x" ++ encode_lower bs) ++ r)) _ _ (omega arith) refl (λ column. refl)
+      ∙ goes_on (there_text there) (32 ∷ ((codes "0x" ++ encode_lower bs) ++ r)) _ _ (there_some there) (there_width there _) (there_step offset there before)
       ∙ blank _ _
-      ∙ goes_on (codes "0x" ++ encode_lower bs) r _ _ (omega arith) (word_width (codes "0x" ++ encode_lower bs) r (word_hex bs each) (omega arith) end) (digits_step offset bs before each some)
+      ∙ goes_on (codes "0x" ++ encode_lower bs) r _ _ (omega arith) (word_width (codes "0x" ++ encode_lower bs) r (word_hex bs each) (omega arith) end) (digits_step offset there bs before each some)
 
   -- ---- conditions
 
   -- a condition inside another, and the text behind it
   shown : Condition → List ℕ → List ℕ
   shown (Compare field comparison operand) r = field_text field ++ (32 ∷ (comparison_text comparison ++ (32 ∷ (operand_word operand ++ r))))
-  shown (Bytes offset bs) r = (codes "bytes@" ++ decimal offset) ++ (codes " == " ++ ((codes "0x" ++ encode_lower bs) ++ r))
+  shown (Bytes offset bs) r = bytes_shown offset true bs r
   shown (And p q) r = 40 ∷ shown p (codes " && " ++ shown q (41 ∷ r))
   shown (Or p q) r = 40 ∷ shown p (codes " || " ++ shown q (41 ∷ r))
   shown (Not p) r = 33 ∷ shown p r
@@ -178,7 +208,7 @@ module _ (layout : List (List ℕ × Field)) (bytes : ℕ) where
 
   -- behind a `!` no `=` is first
   first_shown : (p : Condition) (r : List ℕ) → eqb (get_or (shown p r) 0 0) 61 ≡ false
-  unfolding shown
+  unfolding shown bytes_shown
   first_shown (Compare field comparison operand) r = no_equals field.sign
   first_shown (Bytes offset bs) r = refl
   first_shown (And p q) r = refl
@@ -189,7 +219,7 @@ module _ (layout : List (List ℕ × Field)) (bytes : ℕ) where
       → reading (shown p r) (record { stage = Wanted; before = before }) ≡ reading r (settled before p)
   unfolding shown wanted joined
   shown_goes (Compare field comparison operand) fits r end before = compare_goes field comparison operand fits.0 fits.1 r end before
-  shown_goes (Bytes offset bs) fits r end before = bytes_goes offset bs fits.0 fits.1.0 fits.1.1 r end before
+  shown_goes (Bytes offset bs) fits r end before = bytes_goes offset true bs fits.0 fits.1.0 fits.1.1 r end before
   shown_goes (And p q) fits r end before =
       goes_on (40 ∷ []) (shown p (codes " && " ++ shown q (41 ∷ r))) _ _ (omega arith) refl (λ column. refl)
       ∙ shown_goes p fits.0 (codes " && " ++ shown q (41 ∷ r)) refl (Parenthesis ∷ before)
@@ -213,7 +243,7 @@ module _ (layout : List (List ℕ × Field)) (bytes : ℕ) where
   -- ---- the text
 
   part_shown : (p : Condition) (r : List ℕ) → part_text p ++ r ≡ shown p r
-  unfolding shown
+  unfolding shown bytes_shown there_text
   part_shown (Compare field comparison operand) r = simp append_assoc
   part_shown (Bytes offset bs) r = simp append_assoc
   part_shown (And p q) r =
@@ -256,8 +286,136 @@ module _ (layout : List (List ℕ × Field)) (bytes : ℕ) where
       ∙ shown_goes q fits.1 [] refl (Either p ∷ [])
       ∙ ends_or p q
 
-pub words_again : WordsReadBack
+  -- ---- what stands without parentheses
+
+  and_read : (p : Condition) (before : List Open) (r : List ℕ)
+      → reading (codes " && " ++ r) (record { stage = Whole p; before = before }) ≡ reading r (record { stage = Wanted; before = Both p ∷ before })
+  unfolding joined
+  and_read p before r = blank _ _ ∙ goes_on (codes "&&") (32 ∷ r) _ _ (omega arith) refl (λ column. refl) ∙ blank _ _
+
+  or_read : (p : Condition) (before : List Open) (r : List ℕ)
+      → reading (codes " || " ++ r) (record { stage = Whole p; before = before })
+      ≡ reading r (record { stage = Wanted; before = Either (with_either before p).0 ∷ (with_either before p).1 })
+  unfolding joined
+  or_read p before r = blank _ _ ∙ goes_on (codes "||") (32 ∷ r) _ _ (omega arith) refl (λ column. refl) ∙ blank _ _
+
+  not_read : (p : Condition) (r : List ℕ) → reading (33 ∷ shown p r) at_start ≡ reading (shown p r) (record { stage = Wanted; before = Opposite ∷ [] })
+  unfolding wanted
+  not_read p r = goes_on (33 ∷ []) (shown p r) _ _ (omega arith) (ap (λ (b : Bool). cond b 2 1) (first_shown p r)) (λ column. refl)
+
+  two_shown : (p : Condition) (word : List ℕ) (q : Condition) → part_text p ++ (word ++ part_text q) ≡ shown p (word ++ shown q [])
+  two_shown p word q = part_shown p (word ++ part_text q) ∙ ap (λ (t : List ℕ). shown p (word ++ t)) (sym (append-nil (part_text q)) ∙ part_shown q [])
+
+  row_shown : (p : Condition) (first : List ℕ) (q : Condition) (second : List ℕ) (r : Condition) → row_text p first q second r ≡ shown p (first ++ shown q (second ++ shown r []))
+  row_shown p first q second r = part_shown p (first ++ (part_text q ++ (second ++ part_text r))) ∙ ap (λ (t : List ℕ). shown p (first ++ t)) (two_shown q second r)
+
+  or_and_again : (p q r : Condition) → IsCondition p → IsCondition q → IsCondition r → reading (row_text p (codes " || ") q (codes " && ") r) at_start ≡ Ok (Or p (And q r))
+  or_and_again p q r a b c =
+      ap (λ (t : List ℕ). reading t at_start) (row_shown p (codes " || ") q (codes " && ") r)
+      ∙ shown_goes p a (codes " || " ++ shown q (codes " && " ++ shown r [])) refl [] ∙ or_read p [] (shown q (codes " && " ++ shown r []))
+      ∙ shown_goes q b (codes " && " ++ shown r []) refl (Either p ∷ []) ∙ and_read q (Either p ∷ []) (shown r [])
+      ∙ shown_goes r c [] refl (Both q ∷ Either p ∷ []) ∙ ends_or p (And q r)
+
+  and_or_again : (p q r : Condition) → IsCondition p → IsCondition q → IsCondition r → reading (row_text p (codes " && ") q (codes " || ") r) at_start ≡ Ok (Or (And p q) r)
+  and_or_again p q r a b c =
+      ap (λ (t : List ℕ). reading t at_start) (row_shown p (codes " && ") q (codes " || ") r)
+      ∙ shown_goes p a (codes " && " ++ shown q (codes " || " ++ shown r [])) refl [] ∙ and_read p [] (shown q (codes " || " ++ shown r []))
+      ∙ shown_goes q b (codes " || " ++ shown r []) refl (Both p ∷ []) ∙ or_read (And p q) [] (shown r [])
+      ∙ shown_goes r c [] refl (Either (And p q) ∷ []) ∙ ends_or (And p q) r
+
+  and_and_again : (p q r : Condition) → IsCondition p → IsCondition q → IsCondition r → reading (row_text p (codes " && ") q (codes " && ") r) at_start ≡ Ok (And (And p q) r)
+  and_and_again p q r a b c =
+      ap (λ (t : List ℕ). reading t at_start) (row_shown p (codes " && ") q (codes " && ") r)
+      ∙ shown_goes p a (codes " && " ++ shown q (codes " && " ++ shown r [])) refl [] ∙ and_read p [] (shown q (codes " && " ++ shown r []))
+      ∙ shown_goes q b (codes " && " ++ shown r []) refl (Both p ∷ []) ∙ and_read (And p q) [] (shown r [])
+      ∙ shown_goes r c [] refl (Both (And p q) ∷ []) ∙ ends (And (And p q) r)
+
+  or_or_again : (p q r : Condition) → IsCondition p → IsCondition q → IsCondition r → reading (row_text p (codes " || ") q (codes " || ") r) at_start ≡ Ok (Or (Or p q) r)
+  or_or_again p q r a b c =
+      ap (λ (t : List ℕ). reading t at_start) (row_shown p (codes " || ") q (codes " || ") r)
+      ∙ shown_goes p a (codes " || " ++ shown q (codes " || " ++ shown r [])) refl [] ∙ or_read p [] (shown q (codes " || " ++ shown r []))
+      ∙ shown_goes q b (codes " || " ++ shown r []) refl (Either p ∷ []) ∙ or_read q (Either p ∷ []) (shown r [])
+      ∙ shown_goes r c [] refl (Either (Or p q) ∷ []) ∙ ends_or (Or p q) r
+
+  not_and_again : (p q : Condition) → IsCondition p → IsCondition q → reading (codes "!" ++ (part_text p ++ (codes " && " ++ part_text q))) at_start ≡ Ok (And (Not p) q)
+  not_and_again p q a b =
+      ap (λ (t : List ℕ). reading (33 ∷ t) at_start) (two_shown p (codes " && ") q)
+      ∙ not_read p (codes " && " ++ shown q []) ∙ shown_goes p a (codes " && " ++ shown q []) refl (Opposite ∷ []) ∙ and_read (Not p) [] (shown q [])
+      ∙ shown_goes q b [] refl (Both (Not p) ∷ []) ∙ ends (And (Not p) q)
+
+  not_or_again : (p q : Condition) → IsCondition p → IsCondition q → reading (codes "!" ++ (part_text p ++ (codes " || " ++ part_text q))) at_start ≡ Ok (Or (Not p) q)
+  not_or_again p q a b =
+      ap (λ (t : List ℕ). reading (33 ∷ t) at_start) (two_shown p (codes " || ") q)
+      ∙ not_read p (codes " || " ++ shown q []) ∙ shown_goes p a (codes " || " ++ shown q []) refl (Opposite ∷ []) ∙ or_read (Not p) [] (shown q [])
+      ∙ shown_goes q b [] refl (Either (Not p) ∷ []) ∙ ends_or (Not p) q
+
+  other_bytes_shown : (offset : ℕ) (bs : List ℕ) → other_bytes_text offset bs ≡ bytes_shown offset false bs []
+  unfolding bytes_shown there_text
+  other_bytes_shown offset bs = sym (append-nil (other_bytes_text offset bs)) ∙ simp append_assoc
+
+  first_of_word : (w : List ℕ) → IsWord w → is_word_byte (get_or w 0 0) ≡ true
+  first_of_word [] word = absurd (omega (arith, word.some))
+  first_of_word (b ∷ bs) word = (and_parts (is_word_byte b) (list_all is_word_byte bs) word.all).0
+
+  other_bytes_again : (offset : ℕ) (bs : List ℕ) → IsCondition (Bytes offset bs) → reading (other_bytes_text offset bs) at_start ≡ Ok (Not (Bytes offset bs))
+  other_bytes_again offset bs fits =
+      ap (λ (t : List ℕ). reading t at_start) (other_bytes_shown offset bs)
+      ∙ bytes_goes offset false bs fits.0 fits.1.0 fits.1.1 [] refl [] ∙ ends (Not (Bytes offset bs))
+
+  -- ---- names
+
+  subject_name : (name : List ℕ) (field : Field) → is_field_name name ≡ true → field_named layout name ≡ Some field → subject_of layout name ≡ Ok (Compared field)
+  subject_name name field h found =
+      ap (λ (b : Bool). cond b (subject_in layout name (cut_at 64 name)) (Err kinds.Condition)) (first_of_word name (name_is_word name h))
+      ∙ ap (subject_in layout name) (cut_name name h)
+      ∙ ap (λ (r : Result Field FaultKind). r >>= λ other. Ok (Compared other)) (name_again layout name field h found)
+
+  name_step : (name : List ℕ) (field : Field) → is_field_name name ≡ true → field_named layout name ≡ Some field → (column : ℕ)
+      → step layout column name at_start ≡ Ok (record { stage = Compared field; before = [] })
+  name_step name field h found column =
+      not_blank column name at_start (name_is_word name h)
+      ∙ word_wanted column name [] (name_is_word name h)
+      ∙ ap (λ (r : Result Stage FaultKind). at column r >>= λ stage. Ok (record { stage = stage; before = [] })) (subject_name name field h found)
+
+  named_goes : (name : List ℕ) (field : Field) (comparison : Comparison) (operand : Operand) → is_field_name name ≡ true → field_named layout name ≡ Some field → IsOperand field operand
+      → reading (name ++ (32 ∷ (comparison_text comparison ++ (32 ∷ (operand_word operand ++ []))))) at_start ≡ Ok (Compare field comparison operand)
+  named_goes name field comparison operand h found fits =
+      let word = name_is_word name h in
+      let last = operand_is_word field operand fits in
+      goes_on name (32 ∷ (comparison_text comparison ++ (32 ∷ (operand_word operand ++ [])))) _ _ word.some (word_width name _ word.all word.some refl) (name_step name field h found)
+      ∙ blank _ _
+      ∙ goes_on (comparison_text comparison) (32 ∷ (operand_word operand ++ [])) _ _ (comparison_some comparison) (comparison_width comparison _) (comparison_step field comparison [])
+      ∙ blank _ _
+      ∙ goes_on (operand_word operand) [] _ _ last.some (word_width (operand_word operand) [] last.all last.some refl) (operand_step field comparison operand [] fits)
+      ∙ ends (Compare field comparison operand)
+
+  named_again : (name : List ℕ) (field : Field) (comparison : Comparison) (operand : Operand) → is_field_name name ≡ true → field_named layout name ≡ Some field → IsOperand field operand
+      → reading (named_text name comparison operand) at_start ≡ Ok (Compare field comparison operand)
+  named_again name field comparison operand h found fits =
+      ap (λ (t : List ℕ). reading (name ++ (32 ∷ (comparison_text comparison ++ (32 ∷ t)))) at_start) (sym (append-nil (operand_word operand)))
+      ∙ named_goes name field comparison operand h found fits
+
+-- a text that isn't too long is read
+within : (layout : List (List ℕ × Field)) (text : List ℕ) (p : Condition) → reading layout (length text) text at_start ≡ Ok p → length text ≤ MOST_BYTES → condition_of layout text ≡ Ok p
 unfolding condition_of reading
-words_again layout p fits few =
-    ap (λ (b : Bool). cond b (refused 1 kinds.TooLong) (read_words layout (length (condition_text p)) (cuts (condition_text p)) at_start)) (le-ltb MOST_BYTES (length (condition_text p)) few)
-    ∙ text_again layout (length (condition_text p)) p fits
+within layout text p again few =
+    ap (λ (b : Bool). cond b (refused 1 kinds.TooLong) (read_words layout (length text) (cuts text) at_start)) (le-ltb MOST_BYTES (length text) few) ∙ again
+
+pub words_again : WordsReadBack
+words_again p fits layout = within layout (condition_text p) p (text_again layout (length (condition_text p)) p fits)
+
+pub precedence : WordsHavePrecedence
+precedence p q r a b c = record {
+  or_and = λ layout. within layout _ _ (or_and_again layout _ p q r a b c);
+  and_or = λ layout. within layout _ _ (and_or_again layout _ p q r a b c);
+  and_and = λ layout. within layout _ _ (and_and_again layout _ p q r a b c);
+  or_or = λ layout. within layout _ _ (or_or_again layout _ p q r a b c);
+  not_and = λ layout. within layout _ _ (not_and_again layout _ p q a b);
+  not_or = λ layout. within layout _ _ (not_or_again layout _ p q a b);
+}
+
+pub other_bytes : OtherBytesRead
+other_bytes offset bs fits layout = within layout _ _ (other_bytes_again layout _ offset bs fits)
+
+pub names_again : NamesRead
+names_again layout name field comparison operand h found fits = within layout _ _ (named_again layout _ name field comparison operand h found fits)

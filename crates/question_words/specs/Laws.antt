@@ -1,13 +1,17 @@
--- The law of questions in words.
-use Rattle.std.specs.Prelude.{ℕ, ◌≡◌, ◌<◌, ◌≤◌, ◌^◌, true, List, length, Ok}
-use Rattle.hex.specs.Hex.{IsBytes}
+-- The laws of questions in words.
+use Rattle.std.specs.Prelude.{ℕ, ◌≡◌, ◌<◌, ◌≤◌, ◌^◌, true, List, ◌++◌, length, Some, Ok, codes}
+use Rattle.std.specs.Fmt.{decimal}
+use Rattle.hex.specs.Hex.{IsBytes, encode_lower}
+use Rattle.record_questions.specs.declared.question.Comparison.{Comparison}
 use Rattle.record_questions.specs.declared.question.Field.{Field}
 use Rattle.record_questions.specs.declared.question.Operand.{Operand}
 use Rattle.record_questions.specs.declared.question.Operand.TheVariants as operands
 use Rattle.question_words.specs.declared.reading.TheConstants.{MOST_BYTES}
 use Rattle.question_words.specs.Condition.{Condition, Compare, Bytes, And, Or, Not}
-use Rattle.question_words.specs.Operand.{is_of_type, is_same_sign}
-use Rattle.question_words.specs.Printing.{condition_text}
+use Rattle.question_words.specs.Layout.{field_named}
+use Rattle.question_words.specs.LayoutText.{is_field_name}
+use Rattle.question_words.specs.Operand.{comparison_text, is_of_type, is_same_sign, operand_word}
+use Rattle.question_words.specs.Printing.{condition_text, part_text}
 use Rattle.question_words.specs.Reading.{condition_of}
 
 -- a field whose offset fits the type that it has in the code
@@ -28,8 +32,49 @@ IsCondition (And p q) = IsCondition p × IsCondition q
 IsCondition (Or p q) = IsCondition p × IsCondition q
 IsCondition (Not p) = IsCondition p
 
--- what is printed of a condition is read as the same, whatever the layout, if it isn't longer than a question can be
+-- a text is read as this condition, whatever the layout, if it isn't longer than a question can be
+abbrev pub ReadsAs : List ℕ → Condition → Type 0
+ReadsAs text p = (layout : List (List ℕ × Field)) → length text ≤ MOST_BYTES → condition_of layout text ≡ Ok p
+
+-- what is printed of a condition is read as the same
 abbrev pub WordsReadBack : Type 0
-WordsReadBack =
-    (layout : List (List ℕ × Field)) (p : Condition) → IsCondition p → length (condition_text p) ≤ MOST_BYTES
-    → condition_of layout (condition_text p) ≡ Ok p
+WordsReadBack = (p : Condition) → IsCondition p → ReadsAs (condition_text p) p
+
+-- three conditions in a row, with a word between each two
+abbrev pub row_text : Condition → List ℕ → Condition → List ℕ → Condition → List ℕ
+row_text p first q second r = part_text p ++ (first ++ (part_text q ++ (second ++ part_text r)))
+
+-- where no parentheses say otherwise, `!` takes the condition next to it, `&&` is before `||`, and of two that are the same the first
+-- is before the second
+pub record Precedence (p q r : Condition) : Type 0 where
+  pub or_and : ReadsAs (row_text p (codes " || ") q (codes " && ") r) (Or p (And q r))
+  pub and_or : ReadsAs (row_text p (codes " && ") q (codes " || ") r) (Or (And p q) r)
+  pub and_and : ReadsAs (row_text p (codes " && ") q (codes " && ") r) (And (And p q) r)
+  pub or_or : ReadsAs (row_text p (codes " || ") q (codes " || ") r) (Or (Or p q) r)
+  pub not_and : ReadsAs (codes "!" ++ (part_text p ++ (codes " && " ++ part_text q))) (And (Not p) q)
+  pub not_or : ReadsAs (codes "!" ++ (part_text p ++ (codes " || " ++ part_text q))) (Or (Not p) q)
+
+abbrev pub WordsHavePrecedence : Type 0
+WordsHavePrecedence = (p q r : Condition) → IsCondition p → IsCondition q → IsCondition r → Precedence p q r
+
+-- bytes by `!=`
+abbrev pub other_bytes_text : ℕ → List ℕ → List ℕ
+other_bytes_text offset bytes = codes "bytes@" ++ (decimal offset ++ (codes " != 0x" ++ encode_lower bytes))
+
+-- bytes by `!=` are the opposite of the same by `==`
+abbrev pub OtherBytesRead : Type 0
+OtherBytesRead =
+    (offset : ℕ) (bytes : List ℕ) → IsCondition (Bytes offset bytes)
+    → ReadsAs (other_bytes_text offset bytes) (Not (Bytes offset bytes))
+
+-- a comparison of what has a name
+abbrev pub named_text : List ℕ → Comparison → Operand → List ℕ
+named_text name comparison operand = name ++ (codes " " ++ (comparison_text comparison ++ (codes " " ++ operand_word operand)))
+
+-- a name of the layout is read as its field
+abbrev pub NamesRead : Type 0
+NamesRead =
+    (layout : List (List ℕ × Field)) (name : List ℕ) (field : Field) (comparison : Comparison) (operand : Operand)
+    → is_field_name name ≡ true → field_named layout name ≡ Some field → IsOperand field operand
+    → length (named_text name comparison operand) ≤ MOST_BYTES
+    → condition_of layout (named_text name comparison operand) ≡ Ok (Compare field comparison operand)

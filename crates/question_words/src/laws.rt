@@ -1,9 +1,25 @@
-//! The law of questions in words. The function does nothing: what it ensures is the law.
+//! The laws of questions in words. The functions do nothing: what they ensure is the laws.
 
-ghost use Rattle.question_words.specs.Laws.{WordsReadBack};
+ghost use Rattle.question_words.specs.Laws.{NamesRead, OtherBytesRead, WordsHavePrecedence, WordsReadBack};
 
-/// What is printed of a condition is read as the same, whatever the layout: of one whose numbers are of the types that they are compared
-/// with, and whose text has at most 4096 bytes.
+/// What is printed of a condition is read as the same, whatever the layout, where its numbers fit their fields, its bytes are one or
+/// more, and its text has at most `MOST_BYTES` bytes.
 pub fn words_read_back()
     ensures { WordsReadBack }
+{}
+
+/// Without parentheses `!` takes the condition next to it, `&&` is before `||`, and of two that are the same the first is before the
+/// second.
+pub fn words_have_precedence()
+    ensures { WordsHavePrecedence }
+{}
+
+/// Bytes by `!=` are read as the opposite of the same by `==`.
+pub fn other_bytes_are_read()
+    ensures { OtherBytesRead }
+{}
+
+/// A name of the layout is read as its field.
+pub fn names_are_read()
+    ensures { NamesRead }
 {}
