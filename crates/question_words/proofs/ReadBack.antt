@@ -22,11 +22,11 @@ use Rattle.question_words.specs.Condition.{Condition, Compare, Bytes, And, Or, N
 use Rattle.question_words.specs.Cutting.{Cut, cuts, is_word_byte, width}
 use Rattle.question_words.specs.Fault.{at, refused}
 use Rattle.question_words.specs.Field.{field_of, field_text, shape_text, sign_letter}
-use Rattle.question_words.specs.Laws.{IsCondition, IsField, IsOperand, NamesRead, OtherBytesRead, WordsHavePrecedence, WordsReadBack, named_text, other_bytes_text, row_text}
+use Rattle.question_words.specs.Laws.{IsCondition, IsField, IsOperand, NamesRead, OtherBytesRead, WordsHavePrecedence, WordsReadBack, named_text, row_text}
 use Rattle.question_words.specs.Layout.{field_named}
 use Rattle.question_words.specs.LayoutText.{is_field_name}
 use Rattle.question_words.specs.Operand.{comparison_text, operand_word}
-use Rattle.question_words.specs.Printing.{condition_text, part_text}
+use Rattle.question_words.specs.Printing.{bytes_text, condition_text, not_text, part_text}
 use Rattle.question_words.specs.Reading.{Against, AgainstBytes, BytesCompared, Both, Compared, Either, Open, Opposite, Parenthesis, Stage, State, Wanted, Whole, at_start, bytes_condition, condition_of, decoded, joined, next, read_words, settled, step, subject_in, subject_of, wanted, with_either}
 use Rattle.question_words.proofs.FirstWords.{cuts_none, cuts_word, word_width}
 use Rattle.question_words.proofs.WordsAgain.{IsWord, cut_field, cut_name, cut_there, field_again, field_is_word, name_again, name_is_word, no_blank, no_symbol, offset_again, operand_again, operand_is_word, word_decimal, word_hex}
@@ -194,13 +194,29 @@ module _ (layout : List (List ℕ × Field)) (bytes : ℕ) where
 
   -- ---- conditions
 
+  -- the opposite of a condition, and the text behind it: of the condition and that text, or of the condition and a `)` before that text
+  not_shown : Condition → List ℕ → List ℕ → List ℕ → List ℕ
+  not_shown (Bytes offset bs) own closed r = bytes_shown offset false bs r
+  not_shown (Compare field comparison operand) own closed r = 33 ∷ 40 ∷ closed
+  not_shown (Not p) own closed r = 33 ∷ 40 ∷ closed
+  not_shown (And p q) own closed r = 33 ∷ own
+  not_shown (Or p q) own closed r = 33 ∷ own
+
+  not_first : (p : Condition) (own closed r : List ℕ) → eqb (get_or (not_shown p own closed r) 0 0) 61 ≡ false
+  unfolding not_shown bytes_shown
+  not_first (Bytes offset bs) own closed r = refl
+  not_first (Compare field comparison operand) own closed r = refl
+  not_first (Not p) own closed r = refl
+  not_first (And p q) own closed r = refl
+  not_first (Or p q) own closed r = refl
+
   -- a condition inside another, and the text behind it
   shown : Condition → List ℕ → List ℕ
   shown (Compare field comparison operand) r = field_text field ++ (32 ∷ (comparison_text comparison ++ (32 ∷ (operand_word operand ++ r))))
   shown (Bytes offset bs) r = bytes_shown offset true bs r
   shown (And p q) r = 40 ∷ shown p (codes " && " ++ shown q (41 ∷ r))
   shown (Or p q) r = 40 ∷ shown p (codes " || " ++ shown q (41 ∷ r))
-  shown (Not p) r = 33 ∷ shown p r
+  shown (Not p) r = not_shown p (shown p r) (shown p (41 ∷ r)) r
 
   no_equals : (sign : Sign) → eqb (sign_letter sign) 61 ≡ false
   no_equals Unsigned = refl
@@ -213,7 +229,32 @@ module _ (layout : List (List ℕ × Field)) (bytes : ℕ) where
   first_shown (Bytes offset bs) r = refl
   first_shown (And p q) r = refl
   first_shown (Or p q) r = refl
-  first_shown (Not p) r = refl
+  first_shown (Not p) r = not_first p (shown p r) (shown p (41 ∷ r)) r
+
+  -- a `!` before parentheses, where what is between them is read
+  not_goes : (p : Condition) (t r : List ℕ) (before : List Open)
+      → reading t (record { stage = Wanted; before = Parenthesis ∷ Opposite ∷ before }) ≡ reading (41 ∷ r) (record { stage = Whole p; before = Parenthesis ∷ Opposite ∷ before })
+      → reading (33 ∷ 40 ∷ t) (record { stage = Wanted; before = before }) ≡ reading r (settled before (Not p))
+  unfolding wanted joined
+  not_goes p t r before inside =
+      goes_on (33 ∷ []) (40 ∷ t) _ _ (omega arith) refl (λ column. refl)
+      ∙ goes_on (40 ∷ []) t _ _ (omega arith) refl (λ column. refl)
+      ∙ inside
+      ∙ goes_on (41 ∷ []) r _ _ (omega arith) refl (λ column. refl)
+
+  opposite_goes : (p : Condition) → IsCondition p → (r : List ℕ) → is_word_byte (get_or r 0 0) ≡ false → (before : List Open)
+      → reading (shown p r) (record { stage = Wanted; before = Opposite ∷ before }) ≡ reading r (settled before (Not p))
+      → reading (shown p (41 ∷ r)) (record { stage = Wanted; before = Parenthesis ∷ Opposite ∷ before }) ≡ reading (41 ∷ r) (record { stage = Whole p; before = Parenthesis ∷ Opposite ∷ before })
+      → reading (not_shown p (shown p r) (shown p (41 ∷ r)) r) (record { stage = Wanted; before = before }) ≡ reading r (settled before (Not p))
+  unfolding not_shown wanted
+  opposite_goes (Bytes offset bs) fits r end before own closed = bytes_goes offset false bs fits.0 fits.1.0 fits.1.1 r end before
+  opposite_goes (Compare field comparison operand) fits r end before own closed =
+      not_goes (Compare field comparison operand) (shown (Compare field comparison operand) (41 ∷ r)) r before closed
+  opposite_goes (Not p) fits r end before own closed = not_goes (Not p) (shown (Not p) (41 ∷ r)) r before closed
+  opposite_goes (And p q) fits r end before own closed =
+      goes_on (33 ∷ []) (shown (And p q) r) _ _ (omega arith) (ap (λ (b : Bool). cond b 2 1) (first_shown (And p q) r)) (λ column. refl) ∙ own
+  opposite_goes (Or p q) fits r end before own closed =
+      goes_on (33 ∷ []) (shown (Or p q) r) _ _ (omega arith) (ap (λ (b : Bool). cond b 2 1) (first_shown (Or p q) r)) (λ column. refl) ∙ own
 
   shown_goes : (p : Condition) → IsCondition p → (r : List ℕ) → is_word_byte (get_or r 0 0) ≡ false → (before : List Open)
       → reading (shown p r) (record { stage = Wanted; before = before }) ≡ reading r (settled before p)
@@ -237,10 +278,19 @@ module _ (layout : List (List ℕ × Field)) (bytes : ℕ) where
       ∙ shown_goes q fits.1 (41 ∷ r) refl (Either p ∷ Parenthesis ∷ before)
       ∙ goes_on (41 ∷ []) r _ _ (omega arith) refl (λ column. refl)
   shown_goes (Not p) fits r end before =
-      goes_on (33 ∷ []) (shown p r) _ _ (omega arith) (ap (λ (b : Bool). cond b 2 1) (first_shown p r)) (λ column. refl)
-      ∙ shown_goes p fits r end (Opposite ∷ before)
+      opposite_goes p fits r end before (shown_goes p fits r end (Opposite ∷ before)) (shown_goes p fits (41 ∷ r) refl (Parenthesis ∷ Opposite ∷ before))
 
   -- ---- the text
+
+  not_part : (p : Condition) (r : List ℕ) → part_text p ++ r ≡ shown p r → part_text p ++ 41 ∷ r ≡ shown p (41 ∷ r)
+      → not_text p (part_text p) ++ r ≡ not_shown p (shown p r) (shown p (41 ∷ r)) r
+  unfolding not_shown bytes_shown there_text
+  not_part (Bytes offset bs) r own closed = simp append_assoc
+  not_part (Compare field comparison operand) r own closed =
+      ap (λ (t : List ℕ). 33 ∷ 40 ∷ t) (append_assoc (part_text (Compare field comparison operand)) (codes ")") r ∙ closed)
+  not_part (Not p) r own closed = ap (λ (t : List ℕ). 33 ∷ 40 ∷ t) (append_assoc (part_text (Not p)) (codes ")") r ∙ closed)
+  not_part (And p q) r own closed = ap (λ (t : List ℕ). 33 ∷ t) own
+  not_part (Or p q) r own closed = ap (λ (t : List ℕ). 33 ∷ t) own
 
   part_shown : (p : Condition) (r : List ℕ) → part_text p ++ r ≡ shown p r
   unfolding shown bytes_shown there_text
@@ -256,7 +306,7 @@ module _ (layout : List (List ℕ × Field)) (bytes : ℕ) where
       (append_assoc (part_text p) (codes " || " ++ (part_text q ++ codes ")")) r
       ∙ part_shown p (codes " || " ++ ((part_text q ++ codes ")") ++ r))
       ∙ ap (λ (t : List ℕ). shown p (codes " || " ++ t)) (append_assoc (part_text q) (codes ")") r ∙ part_shown q (41 ∷ r)))
-  part_shown (Not p) r = ap (λ (t : List ℕ). 33 ∷ t) (part_shown p r)
+  part_shown (Not p) r = not_part p r (part_shown p r) (part_shown p (41 ∷ r))
 
   -- a condition that nothing is around
   part_again : (p : Condition) → IsCondition p → settled [] p ≡ record { stage = Whole p; before = [] } → reading (part_text p) at_start ≡ Ok p
@@ -349,15 +399,15 @@ module _ (layout : List (List ℕ × Field)) (bytes : ℕ) where
       ∙ not_read p (codes " || " ++ shown q []) ∙ shown_goes p a (codes " || " ++ shown q []) refl (Opposite ∷ []) ∙ or_read (Not p) [] (shown q [])
       ∙ shown_goes q b [] refl (Either (Not p) ∷ []) ∙ ends_or (Not p) q
 
-  other_bytes_shown : (offset : ℕ) (bs : List ℕ) → other_bytes_text offset bs ≡ bytes_shown offset false bs []
+  other_bytes_shown : (offset : ℕ) (bs : List ℕ) → bytes_text offset (codes " != 0x") bs ≡ bytes_shown offset false bs []
   unfolding bytes_shown there_text
-  other_bytes_shown offset bs = sym (append-nil (other_bytes_text offset bs)) ∙ simp append_assoc
+  other_bytes_shown offset bs = sym (append-nil (bytes_text offset (codes " != 0x") bs)) ∙ simp append_assoc
 
   first_of_word : (w : List ℕ) → IsWord w → is_word_byte (get_or w 0 0) ≡ true
   first_of_word [] word = absurd (omega (arith, word.some))
   first_of_word (b ∷ bs) word = (and_parts (is_word_byte b) (list_all is_word_byte bs) word.all).0
 
-  other_bytes_again : (offset : ℕ) (bs : List ℕ) → IsCondition (Bytes offset bs) → reading (other_bytes_text offset bs) at_start ≡ Ok (Not (Bytes offset bs))
+  other_bytes_again : (offset : ℕ) (bs : List ℕ) → IsCondition (Bytes offset bs) → reading (bytes_text offset (codes " != 0x") bs) at_start ≡ Ok (Not (Bytes offset bs))
   other_bytes_again offset bs fits =
       ap (λ (t : List ℕ). reading t at_start) (other_bytes_shown offset bs)
       ∙ bytes_goes offset false bs fits.0 fits.1.0 fits.1.1 [] refl [] ∙ ends (Not (Bytes offset bs))

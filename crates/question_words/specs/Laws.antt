@@ -1,7 +1,6 @@
 -- The laws of questions in words.
 use Rattle.std.specs.Prelude.{ℕ, ◌≡◌, ◌<◌, ◌≤◌, ◌^◌, true, List, ◌++◌, length, Some, Ok, codes}
-use Rattle.std.specs.Fmt.{decimal}
-use Rattle.hex.specs.Hex.{IsBytes, encode_lower}
+use Rattle.hex.specs.Hex.{IsBytes}
 use Rattle.record_questions.specs.declared.question.Comparison.{Comparison}
 use Rattle.record_questions.specs.declared.question.Field.{Field}
 use Rattle.record_questions.specs.declared.question.Operand.{Operand}
@@ -11,7 +10,7 @@ use Rattle.question_words.specs.Condition.{Condition, Compare, Bytes, And, Or, N
 use Rattle.question_words.specs.Layout.{field_named}
 use Rattle.question_words.specs.LayoutText.{is_field_name}
 use Rattle.question_words.specs.Operand.{comparison_text, is_of_type, is_same_sign, operand_word}
-use Rattle.question_words.specs.Printing.{condition_text, part_text}
+use Rattle.question_words.specs.Printing.{bytes_text, condition_text, part_text}
 use Rattle.question_words.specs.Reading.{condition_of}
 
 -- a field whose offset fits the type that it has in the code
@@ -57,15 +56,11 @@ pub record Precedence (p q r : Condition) : Type 0 where
 abbrev pub WordsHavePrecedence : Type 0
 WordsHavePrecedence = (p q r : Condition) → IsCondition p → IsCondition q → IsCondition r → Precedence p q r
 
--- bytes by `!=`
-abbrev pub other_bytes_text : ℕ → List ℕ → List ℕ
-other_bytes_text offset bytes = codes "bytes@" ++ (decimal offset ++ (codes " != 0x" ++ encode_lower bytes))
-
 -- bytes by `!=` are the opposite of the same by `==`
 abbrev pub OtherBytesRead : Type 0
 OtherBytesRead =
     (offset : ℕ) (bytes : List ℕ) → IsCondition (Bytes offset bytes)
-    → ReadsAs (other_bytes_text offset bytes) (Not (Bytes offset bytes))
+    → ReadsAs (bytes_text offset (codes " != 0x") bytes) (Not (Bytes offset bytes))
 
 -- a comparison of what has a name
 abbrev pub named_text : List ℕ → Comparison → Operand → List ℕ

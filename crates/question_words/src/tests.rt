@@ -38,7 +38,7 @@ fn questions_are_read(rt: HostRuntime) -> Result<(), Fail> {
         &rt,
         alloc,
         "!u8@0 < 0x10&&price>=-5||i64be@2!=arg",
-        "(!u8@0 < 16 && i32@12 >= -5) || i64be@2 != arg",
+        "(!(u8@0 < 16) && i32@12 >= -5) || i64be@2 != arg",
     )?;
     shows(
         &rt,
@@ -50,7 +50,7 @@ fn questions_are_read(rt: HostRuntime) -> Result<(), Fail> {
         &rt,
         alloc,
         "!!(bytes@2 != 0x6162 || (u8@0 == 0))",
-        "!!(!bytes@2 == 0x6162 || u8@0 == 0)",
+        "!(!(bytes@2 != 0x6162 || u8@0 == 0))",
     )?;
     shows(
         &rt,
