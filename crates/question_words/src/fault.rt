@@ -4,6 +4,7 @@ ghost use Rattle.std.specs.Prelude.{◌≡◌};
 ghost use Rattle.question_words.specs.Fault.{located as located_at};
 ghost use Rattle.question_words.specs.declared.fault.ReadFault.TheVariants.{Memory};
 
+use crate::reading::MOST_BYTES;
 use std::alloc::{AllocError, AllocFailed};
 use thiserror::Error;
 
@@ -53,7 +54,7 @@ pub enum FaultKind {
     #[error("a ) is missing")]
     NotClosed,
     /// The text is too long.
-    #[error("a question has at most 4096 bytes")]
+    #[error("a question has at most {most} bytes", most = MOST_BYTES)]
     TooLong,
 }
 
@@ -61,7 +62,8 @@ pub enum FaultKind {
 #[derive(Clone, Copy, Debug, PartialEq, Eq, Error)]
 #[error("column {column}: {kind}")]
 pub struct WordFault {
-    /// The column of the word's first byte, counted in bytes from 1; behind the last byte where a word is missing.
+    /// The column of the word's first byte, counted in bytes from 1; behind the last byte where a word is missing,
+    /// and 1 where the text is too long.
     pub column: usize,
     /// What is wrong there.
     pub kind: FaultKind,

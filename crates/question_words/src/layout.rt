@@ -14,11 +14,11 @@ pub struct NamedField {
     pub field: Field,
 }
 
-/// The names by which a question can speak of fields.
+/// The names by which a question can speak of fields. `read_layout` alone makes one, so each is a name that a field can have.
 #[derive(Drop)]
 pub struct Layout {
     /// Each name with its field. Of two that are the same the first counts.
-    pub fields: Vec<NamedField>,
+    pub(crate) fields: Vec<NamedField>,
 }
 
 impl Layout {

@@ -31,7 +31,7 @@ pub use fault::{FaultKind, ReadFault, WordFault};
 pub use layout::{Layout, NamedField};
 pub use layout_text::{LayoutFault, LineKind, read_layout};
 pub use printing::text_of;
-pub use reading::read;
+pub use reading::{MOST_BYTES, read};
 
 #[cfg(test)]
 mod tests;
