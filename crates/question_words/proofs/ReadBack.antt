@@ -27,9 +27,9 @@ use Rattle.question_words.specs.Layout.{field_named}
 use Rattle.question_words.specs.LayoutText.{is_field_name}
 use Rattle.question_words.specs.Operand.{comparison_text, operand_word}
 use Rattle.question_words.specs.Printing.{bytes_text, condition_text, not_text, part_text}
-use Rattle.question_words.specs.Reading.{Against, AgainstBytes, BytesCompared, Both, Compared, Either, Open, Opposite, Parenthesis, Stage, State, Wanted, Whole, at_start, bytes_condition, condition_of, decoded, joined, next, read_words, settled, step, subject_in, subject_of, wanted, with_either}
+use Rattle.question_words.specs.Reading.{Against, AgainstBytes, BytesCompared, OpenAnd, Compared, OpenOr, Open, OpenNot, OpenParenthesis, Stage, State, Wanted, Whole, at_start, bytes_condition, condition_of, decoded, joined, next, read_words, settled, step, subject_in, subject_of, wanted, with_or}
 use Rattle.question_words.proofs.FirstWords.{cuts_none, cuts_word, word_width}
-use Rattle.question_words.proofs.WordsAgain.{IsWord, cut_field, cut_name, cut_there, field_again, field_is_word, name_again, name_is_word, no_blank, no_symbol, offset_again, operand_again, operand_is_word, word_decimal, word_hex}
+use Rattle.question_words.proofs.WordsAgain.{IsWord, cut_field, cut_name, cut_there, field_again, field_is_word, name_again, name_begins_comparison, name_is_word, no_blank, no_symbol, offset_again, operand_again, operand_is_word, word_decimal, word_hex}
 
 module _ (layout : List (List ℕ × Field)) (bytes : ℕ) where
   -- what a text makes of what is read so far
@@ -47,14 +47,14 @@ module _ (layout : List (List ℕ × Field)) (bytes : ℕ) where
   blank : (r : List ℕ) (s : State) → reading (32 ∷ r) s ≡ reading r s
   blank r s = goes_on (32 ∷ []) r s s (omega arith) refl (λ column. refl)
 
-  -- the text ends behind a condition
+  -- the text ends after a condition
   ends : (p : Condition) → reading [] (record { stage = Whole p; before = [] }) ≡ Ok p
   unfolding reading
   ends p = ap (λ (cs : List Cut). read_words layout bytes cs (record { stage = Whole p; before = [] })) cuts_none
 
-  ends_or : (p q : Condition) → reading [] (record { stage = Whole q; before = Either p ∷ [] }) ≡ Ok (Or p q)
+  ends_or : (p q : Condition) → reading [] (record { stage = Whole q; before = OpenOr p ∷ [] }) ≡ Ok (Or p q)
   unfolding reading
-  ends_or p q = ap (λ (cs : List Cut). read_words layout bytes cs (record { stage = Whole q; before = Either p ∷ [] })) cuts_none
+  ends_or p q = ap (λ (cs : List Cut). read_words layout bytes cs (record { stage = Whole q; before = OpenOr p ∷ [] })) cuts_none
 
   -- ---- comparisons of fields
 
@@ -70,13 +70,13 @@ module _ (layout : List (List ℕ × Field)) (bytes : ℕ) where
   subject_field word Unsigned rest at = refl
   subject_field word Signed rest at = refl
 
-  first_letter : (sign : Sign) (stage other : Result Stage FaultKind) → cond (is_word_byte (sign_letter sign)) stage other ≡ stage
-  first_letter Unsigned stage other = refl
-  first_letter Signed stage other = refl
+  subject_letter : (sign : Sign) (rest : List ℕ) → subject_of layout (sign_letter sign ∷ rest) ≡ subject_in layout (sign_letter sign ∷ rest) (cut_at 64 (sign_letter sign ∷ rest))
+  subject_letter Unsigned rest = refl
+  subject_letter Signed rest = refl
 
   subject_again : (field : Field) → IsField field → subject_of layout (field_text field) ≡ Ok (Compared field)
   subject_again field small =
-      first_letter field.sign _ _
+      subject_letter field.sign (shape_text field.size field.order ++ 64 ∷ decimal field.offset)
       ∙ ap (subject_in layout (field_text field)) (cut_field field)
       ∙ subject_field (field_text field) field.sign (shape_text field.size field.order) (decimal field.offset)
       ∙ ap (λ (r : Result Field FaultKind). r >>= λ other. Ok (Compared other)) (field_again layout field small)
@@ -177,7 +177,7 @@ module _ (layout : List (List ℕ × Field)) (bytes : ℕ) where
   there_step offset true before column = refl
   there_step offset false before column = refl
 
-  -- bytes, and the text behind them
+  -- bytes, and the text after them
   bytes_shown : ℕ → Bool → List ℕ → List ℕ → List ℕ
   bytes_shown offset there bs r = (codes "bytes@" ++ decimal offset) ++ (32 ∷ (there_text there ++ (32 ∷ ((codes "0x" ++ encode_lower bs) ++ r))))
 
@@ -194,7 +194,7 @@ module _ (layout : List (List ℕ × Field)) (bytes : ℕ) where
 
   -- ---- conditions
 
-  -- the opposite of a condition, and the text behind it: of the condition and that text, or of the condition and a `)` before that text
+  -- the opposite of a condition, and the text after it: of the condition and that text, or of the condition and a `)` before that text
   not_shown : Condition → List ℕ → List ℕ → List ℕ → List ℕ
   not_shown (Bytes offset bs) own closed r = bytes_shown offset false bs r
   not_shown (Compare field comparison operand) own closed r = 33 ∷ 40 ∷ closed
@@ -210,7 +210,7 @@ module _ (layout : List (List ℕ × Field)) (bytes : ℕ) where
   not_first (And p q) own closed r = refl
   not_first (Or p q) own closed r = refl
 
-  -- a condition inside another, and the text behind it
+  -- a condition inside another, and the text after it
   shown : Condition → List ℕ → List ℕ
   shown (Compare field comparison operand) r = field_text field ++ (32 ∷ (comparison_text comparison ++ (32 ∷ (operand_word operand ++ r))))
   shown (Bytes offset bs) r = bytes_shown offset true bs r
@@ -222,7 +222,7 @@ module _ (layout : List (List ℕ × Field)) (bytes : ℕ) where
   no_equals Unsigned = refl
   no_equals Signed = refl
 
-  -- behind a `!` no `=` is first
+  -- after a `!` no `=` is first
   first_shown : (p : Condition) (r : List ℕ) → eqb (get_or (shown p r) 0 0) 61 ≡ false
   unfolding shown bytes_shown
   first_shown (Compare field comparison operand) r = no_equals field.sign
@@ -233,7 +233,7 @@ module _ (layout : List (List ℕ × Field)) (bytes : ℕ) where
 
   -- a `!` before parentheses, where what is between them is read
   not_goes : (p : Condition) (t r : List ℕ) (before : List Open)
-      → reading t (record { stage = Wanted; before = Parenthesis ∷ Opposite ∷ before }) ≡ reading (41 ∷ r) (record { stage = Whole p; before = Parenthesis ∷ Opposite ∷ before })
+      → reading t (record { stage = Wanted; before = OpenParenthesis ∷ OpenNot ∷ before }) ≡ reading (41 ∷ r) (record { stage = Whole p; before = OpenParenthesis ∷ OpenNot ∷ before })
       → reading (33 ∷ 40 ∷ t) (record { stage = Wanted; before = before }) ≡ reading r (settled before (Not p))
   unfolding wanted joined
   not_goes p t r before inside =
@@ -243,8 +243,8 @@ module _ (layout : List (List ℕ × Field)) (bytes : ℕ) where
       ∙ goes_on (41 ∷ []) r _ _ (omega arith) refl (λ column. refl)
 
   opposite_goes : (p : Condition) → IsCondition p → (r : List ℕ) → is_word_byte (get_or r 0 0) ≡ false → (before : List Open)
-      → reading (shown p r) (record { stage = Wanted; before = Opposite ∷ before }) ≡ reading r (settled before (Not p))
-      → reading (shown p (41 ∷ r)) (record { stage = Wanted; before = Parenthesis ∷ Opposite ∷ before }) ≡ reading (41 ∷ r) (record { stage = Whole p; before = Parenthesis ∷ Opposite ∷ before })
+      → reading (shown p r) (record { stage = Wanted; before = OpenNot ∷ before }) ≡ reading r (settled before (Not p))
+      → reading (shown p (41 ∷ r)) (record { stage = Wanted; before = OpenParenthesis ∷ OpenNot ∷ before }) ≡ reading (41 ∷ r) (record { stage = Whole p; before = OpenParenthesis ∷ OpenNot ∷ before })
       → reading (not_shown p (shown p r) (shown p (41 ∷ r)) r) (record { stage = Wanted; before = before }) ≡ reading r (settled before (Not p))
   unfolding not_shown wanted
   opposite_goes (Bytes offset bs) fits r end before own closed = bytes_goes offset false bs fits.0 fits.1.0 fits.1.1 r end before
@@ -263,22 +263,22 @@ module _ (layout : List (List ℕ × Field)) (bytes : ℕ) where
   shown_goes (Bytes offset bs) fits r end before = bytes_goes offset true bs fits.0 fits.1.0 fits.1.1 r end before
   shown_goes (And p q) fits r end before =
       goes_on (40 ∷ []) (shown p (codes " && " ++ shown q (41 ∷ r))) _ _ (omega arith) refl (λ column. refl)
-      ∙ shown_goes p fits.0 (codes " && " ++ shown q (41 ∷ r)) refl (Parenthesis ∷ before)
+      ∙ shown_goes p fits.0 (codes " && " ++ shown q (41 ∷ r)) refl (OpenParenthesis ∷ before)
       ∙ blank _ _
       ∙ goes_on (codes "&&") (32 ∷ shown q (41 ∷ r)) _ _ (omega arith) refl (λ column. refl)
       ∙ blank _ _
-      ∙ shown_goes q fits.1 (41 ∷ r) refl (Both p ∷ Parenthesis ∷ before)
+      ∙ shown_goes q fits.1 (41 ∷ r) refl (OpenAnd p ∷ OpenParenthesis ∷ before)
       ∙ goes_on (41 ∷ []) r _ _ (omega arith) refl (λ column. refl)
   shown_goes (Or p q) fits r end before =
       goes_on (40 ∷ []) (shown p (codes " || " ++ shown q (41 ∷ r))) _ _ (omega arith) refl (λ column. refl)
-      ∙ shown_goes p fits.0 (codes " || " ++ shown q (41 ∷ r)) refl (Parenthesis ∷ before)
+      ∙ shown_goes p fits.0 (codes " || " ++ shown q (41 ∷ r)) refl (OpenParenthesis ∷ before)
       ∙ blank _ _
       ∙ goes_on (codes "||") (32 ∷ shown q (41 ∷ r)) _ _ (omega arith) refl (λ column. refl)
       ∙ blank _ _
-      ∙ shown_goes q fits.1 (41 ∷ r) refl (Either p ∷ Parenthesis ∷ before)
+      ∙ shown_goes q fits.1 (41 ∷ r) refl (OpenOr p ∷ OpenParenthesis ∷ before)
       ∙ goes_on (41 ∷ []) r _ _ (omega arith) refl (λ column. refl)
   shown_goes (Not p) fits r end before =
-      opposite_goes p fits r end before (shown_goes p fits r end (Opposite ∷ before)) (shown_goes p fits (41 ∷ r) refl (Parenthesis ∷ Opposite ∷ before))
+      opposite_goes p fits r end before (shown_goes p fits r end (OpenNot ∷ before)) (shown_goes p fits (41 ∷ r) refl (OpenParenthesis ∷ OpenNot ∷ before))
 
   -- ---- the text
 
@@ -325,7 +325,7 @@ module _ (layout : List (List ℕ × Field)) (bytes : ℕ) where
       ∙ blank _ _
       ∙ goes_on (codes "&&") (32 ∷ shown q []) _ _ (omega arith) refl (λ column. refl)
       ∙ blank _ _
-      ∙ shown_goes q fits.1 [] refl (Both p ∷ [])
+      ∙ shown_goes q fits.1 [] refl (OpenAnd p ∷ [])
       ∙ ends (And p q)
   text_again (Or p q) fits =
       ap (λ (t : List ℕ). reading t at_start) (part_shown p (codes " || " ++ part_text q) ∙ ap (λ (t : List ℕ). shown p (codes " || " ++ t)) (sym (append-nil (part_text q)) ∙ part_shown q []))
@@ -333,23 +333,23 @@ module _ (layout : List (List ℕ × Field)) (bytes : ℕ) where
       ∙ blank _ _
       ∙ goes_on (codes "||") (32 ∷ shown q []) _ _ (omega arith) refl (λ column. refl)
       ∙ blank _ _
-      ∙ shown_goes q fits.1 [] refl (Either p ∷ [])
+      ∙ shown_goes q fits.1 [] refl (OpenOr p ∷ [])
       ∙ ends_or p q
 
   -- ---- what stands without parentheses
 
   and_read : (p : Condition) (before : List Open) (r : List ℕ)
-      → reading (codes " && " ++ r) (record { stage = Whole p; before = before }) ≡ reading r (record { stage = Wanted; before = Both p ∷ before })
+      → reading (codes " && " ++ r) (record { stage = Whole p; before = before }) ≡ reading r (record { stage = Wanted; before = OpenAnd p ∷ before })
   unfolding joined
   and_read p before r = blank _ _ ∙ goes_on (codes "&&") (32 ∷ r) _ _ (omega arith) refl (λ column. refl) ∙ blank _ _
 
   or_read : (p : Condition) (before : List Open) (r : List ℕ)
       → reading (codes " || " ++ r) (record { stage = Whole p; before = before })
-      ≡ reading r (record { stage = Wanted; before = Either (with_either before p).0 ∷ (with_either before p).1 })
+      ≡ reading r (record { stage = Wanted; before = OpenOr (with_or before p).0 ∷ (with_or before p).1 })
   unfolding joined
   or_read p before r = blank _ _ ∙ goes_on (codes "||") (32 ∷ r) _ _ (omega arith) refl (λ column. refl) ∙ blank _ _
 
-  not_read : (p : Condition) (r : List ℕ) → reading (33 ∷ shown p r) at_start ≡ reading (shown p r) (record { stage = Wanted; before = Opposite ∷ [] })
+  not_read : (p : Condition) (r : List ℕ) → reading (33 ∷ shown p r) at_start ≡ reading (shown p r) (record { stage = Wanted; before = OpenNot ∷ [] })
   unfolding wanted
   not_read p r = goes_on (33 ∷ []) (shown p r) _ _ (omega arith) (ap (λ (b : Bool). cond b 2 1) (first_shown p r)) (λ column. refl)
 
@@ -363,41 +363,41 @@ module _ (layout : List (List ℕ × Field)) (bytes : ℕ) where
   or_and_again p q r a b c =
       ap (λ (t : List ℕ). reading t at_start) (row_shown p (codes " || ") q (codes " && ") r)
       ∙ shown_goes p a (codes " || " ++ shown q (codes " && " ++ shown r [])) refl [] ∙ or_read p [] (shown q (codes " && " ++ shown r []))
-      ∙ shown_goes q b (codes " && " ++ shown r []) refl (Either p ∷ []) ∙ and_read q (Either p ∷ []) (shown r [])
-      ∙ shown_goes r c [] refl (Both q ∷ Either p ∷ []) ∙ ends_or p (And q r)
+      ∙ shown_goes q b (codes " && " ++ shown r []) refl (OpenOr p ∷ []) ∙ and_read q (OpenOr p ∷ []) (shown r [])
+      ∙ shown_goes r c [] refl (OpenAnd q ∷ OpenOr p ∷ []) ∙ ends_or p (And q r)
 
   and_or_again : (p q r : Condition) → IsCondition p → IsCondition q → IsCondition r → reading (row_text p (codes " && ") q (codes " || ") r) at_start ≡ Ok (Or (And p q) r)
   and_or_again p q r a b c =
       ap (λ (t : List ℕ). reading t at_start) (row_shown p (codes " && ") q (codes " || ") r)
       ∙ shown_goes p a (codes " && " ++ shown q (codes " || " ++ shown r [])) refl [] ∙ and_read p [] (shown q (codes " || " ++ shown r []))
-      ∙ shown_goes q b (codes " || " ++ shown r []) refl (Both p ∷ []) ∙ or_read (And p q) [] (shown r [])
-      ∙ shown_goes r c [] refl (Either (And p q) ∷ []) ∙ ends_or (And p q) r
+      ∙ shown_goes q b (codes " || " ++ shown r []) refl (OpenAnd p ∷ []) ∙ or_read (And p q) [] (shown r [])
+      ∙ shown_goes r c [] refl (OpenOr (And p q) ∷ []) ∙ ends_or (And p q) r
 
   and_and_again : (p q r : Condition) → IsCondition p → IsCondition q → IsCondition r → reading (row_text p (codes " && ") q (codes " && ") r) at_start ≡ Ok (And (And p q) r)
   and_and_again p q r a b c =
       ap (λ (t : List ℕ). reading t at_start) (row_shown p (codes " && ") q (codes " && ") r)
       ∙ shown_goes p a (codes " && " ++ shown q (codes " && " ++ shown r [])) refl [] ∙ and_read p [] (shown q (codes " && " ++ shown r []))
-      ∙ shown_goes q b (codes " && " ++ shown r []) refl (Both p ∷ []) ∙ and_read (And p q) [] (shown r [])
-      ∙ shown_goes r c [] refl (Both (And p q) ∷ []) ∙ ends (And (And p q) r)
+      ∙ shown_goes q b (codes " && " ++ shown r []) refl (OpenAnd p ∷ []) ∙ and_read (And p q) [] (shown r [])
+      ∙ shown_goes r c [] refl (OpenAnd (And p q) ∷ []) ∙ ends (And (And p q) r)
 
   or_or_again : (p q r : Condition) → IsCondition p → IsCondition q → IsCondition r → reading (row_text p (codes " || ") q (codes " || ") r) at_start ≡ Ok (Or (Or p q) r)
   or_or_again p q r a b c =
       ap (λ (t : List ℕ). reading t at_start) (row_shown p (codes " || ") q (codes " || ") r)
       ∙ shown_goes p a (codes " || " ++ shown q (codes " || " ++ shown r [])) refl [] ∙ or_read p [] (shown q (codes " || " ++ shown r []))
-      ∙ shown_goes q b (codes " || " ++ shown r []) refl (Either p ∷ []) ∙ or_read q (Either p ∷ []) (shown r [])
-      ∙ shown_goes r c [] refl (Either (Or p q) ∷ []) ∙ ends_or (Or p q) r
+      ∙ shown_goes q b (codes " || " ++ shown r []) refl (OpenOr p ∷ []) ∙ or_read q (OpenOr p ∷ []) (shown r [])
+      ∙ shown_goes r c [] refl (OpenOr (Or p q) ∷ []) ∙ ends_or (Or p q) r
 
   not_and_again : (p q : Condition) → IsCondition p → IsCondition q → reading (codes "!" ++ (part_text p ++ (codes " && " ++ part_text q))) at_start ≡ Ok (And (Not p) q)
   not_and_again p q a b =
       ap (λ (t : List ℕ). reading (33 ∷ t) at_start) (two_shown p (codes " && ") q)
-      ∙ not_read p (codes " && " ++ shown q []) ∙ shown_goes p a (codes " && " ++ shown q []) refl (Opposite ∷ []) ∙ and_read (Not p) [] (shown q [])
-      ∙ shown_goes q b [] refl (Both (Not p) ∷ []) ∙ ends (And (Not p) q)
+      ∙ not_read p (codes " && " ++ shown q []) ∙ shown_goes p a (codes " && " ++ shown q []) refl (OpenNot ∷ []) ∙ and_read (Not p) [] (shown q [])
+      ∙ shown_goes q b [] refl (OpenAnd (Not p) ∷ []) ∙ ends (And (Not p) q)
 
   not_or_again : (p q : Condition) → IsCondition p → IsCondition q → reading (codes "!" ++ (part_text p ++ (codes " || " ++ part_text q))) at_start ≡ Ok (Or (Not p) q)
   not_or_again p q a b =
       ap (λ (t : List ℕ). reading (33 ∷ t) at_start) (two_shown p (codes " || ") q)
-      ∙ not_read p (codes " || " ++ shown q []) ∙ shown_goes p a (codes " || " ++ shown q []) refl (Opposite ∷ []) ∙ or_read (Not p) [] (shown q [])
-      ∙ shown_goes q b [] refl (Either (Not p) ∷ []) ∙ ends_or (Not p) q
+      ∙ not_read p (codes " || " ++ shown q []) ∙ shown_goes p a (codes " || " ++ shown q []) refl (OpenNot ∷ []) ∙ or_read (Not p) [] (shown q [])
+      ∙ shown_goes q b [] refl (OpenOr (Not p) ∷ []) ∙ ends_or (Not p) q
 
   other_bytes_shown : (offset : ℕ) (bs : List ℕ) → bytes_text offset (codes " != 0x") bs ≡ bytes_shown offset false bs []
   unfolding bytes_shown there_text
@@ -416,7 +416,8 @@ module _ (layout : List (List ℕ × Field)) (bytes : ℕ) where
 
   subject_name : (name : List ℕ) (field : Field) → is_field_name name ≡ true → field_named layout name ≡ Some field → subject_of layout name ≡ Ok (Compared field)
   subject_name name field h found =
-      ap (λ (b : Bool). cond b (subject_in layout name (cut_at 64 name)) (Err kinds.Condition)) (first_of_word name (name_is_word name h))
+      ap (λ (b : Bool). cond b (Err kinds.Left) (cond (is_word_byte (get_or name 0 0)) (subject_in layout name (cut_at 64 name)) (Err kinds.Condition))) (name_begins_comparison name h)
+      ∙ ap (λ (b : Bool). cond b (subject_in layout name (cut_at 64 name)) (Err kinds.Condition)) (first_of_word name (name_is_word name h))
       ∙ ap (subject_in layout name) (cut_name name h)
       ∙ ap (λ (r : Result Field FaultKind). r >>= λ other. Ok (Compared other)) (name_again layout name field h found)
 

@@ -7,7 +7,7 @@ use Rattle.std.specs.Str.{bytes_eq}
 use Rattle.std.specs.Str.Parse.{AllDigits, IsNumeral, digits_value}
 use Rattle.std.specs.Fmt.{decimal, signed_decimal}
 use Rattle.std.proofs.Math.Bool.{and-false}
-use Rattle.std.proofs.lemmas.Bool.{and_parts, eqb-true, false_from_ne_true, le-ltb, leb-true, lt-ltb, ne_eqb, not-true, true_from_ne_false}
+use Rattle.std.proofs.lemmas.Bool.{and_parts, eqb-true, false_from_ne_true, le-ltb, leb-true, lt-ltb, ne_eqb, not-true, or_from, or_parts, true_from_ne_false}
 use Rattle.std.proofs.lemmas.Bool.Decides.{nat_tests}
 use Rattle.std.proofs.lemmas.Fmt.{decimal_is_IsNumeral}
 use Rattle.std.proofs.lemmas.Str.Parse.{digit_from_value}
@@ -240,6 +240,16 @@ pub name_is_word : (name : List ℕ) → is_field_name name ≡ true → IsWord 
 name_is_word name h =
     let parts = three_parts (begins_name (slice_index name 0)) (list_all is_name_byte name) (not (is_taken_word name)) h in
     record { all = word_name name parts.1.0; some = begins_some name parts.0 }
+
+no_number : (b : ℕ) → begins_name b ≡ true → (is_ascii_digit b || eqb b 45) ≡ false
+no_number b h = grind (arith, nat_tests)
+
+-- a name is neither a number nor the argument
+pub name_begins_comparison : (name : List ℕ) → is_field_name name ≡ true → (begins_number name || bytes_eq name (codes "arg")) ≡ false
+name_begins_comparison name h =
+    let parts = three_parts (begins_name (slice_index name 0)) (list_all is_name_byte name) (not (is_taken_word name)) h in
+    or_from (begins_number name) (bytes_eq name (codes "arg")) (no_number (slice_index name 0) parts.0)
+    (or_parts (bytes_eq name (codes "arg")) (bytes_eq name (codes "bytes")) (not-true (is_taken_word name) parts.1.1)).0
 
 pub cut_name : (name : List ℕ) → is_field_name name ≡ true → cut_at 64 name ≡ None
 cut_name name h =

@@ -23,13 +23,13 @@ pub record Cut : Type 0 where
   pub left : ℕ
   pub word : List ℕ
 
--- the words of a text behind so many bytes
-abbrev pub cuts_behind : ℕ → List ℕ → List Cut
-cuts_behind skip [] = []
-cuts_behind zero (byte ∷ rest) =
-    record { left = length (byte ∷ rest); word = take (width (byte ∷ rest)) (byte ∷ rest) } ∷ cuts_behind (width (byte ∷ rest) - 1) rest
-cuts_behind (suc skip) (byte ∷ rest) = cuts_behind skip rest
+-- the words of a text after so many bytes
+abbrev pub cuts_after : ℕ → List ℕ → List Cut
+cuts_after skip [] = []
+cuts_after zero (byte ∷ rest) =
+    record { left = length (byte ∷ rest); word = take (width (byte ∷ rest)) (byte ∷ rest) } ∷ cuts_after (width (byte ∷ rest) - 1) rest
+cuts_after (suc skip) (byte ∷ rest) = cuts_after skip rest
 
 -- the words of a text, of which a blank is one
 unfoldable pub cuts : List ℕ → List Cut
-cuts text = cuts_behind 0 text
+cuts text = cuts_after 0 text

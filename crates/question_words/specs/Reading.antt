@@ -14,16 +14,16 @@ use Rattle.question_words.specs.Condition.{Condition, Compare, Bytes, And, Or, N
 use Rattle.question_words.specs.Cutting.{Cut, cuts, is_word_byte}
 use Rattle.question_words.specs.Fault.{at, refused}
 use Rattle.question_words.specs.Field.{field_of, offset_of}
-use Rattle.question_words.specs.Operand.{comparison_of, operand_of}
+use Rattle.question_words.specs.Operand.{begins_number, comparison_of, operand_of}
 
 -- what is open before the place that is read, the nearest first: a `!`, a parenthesis, or the first of two conditions
 pub data Open : Type 0 where
-  Opposite : Open
-  Parenthesis : Open
-  Both : (first : Condition) → Open
-  Either : (first : Condition) → Open
+  OpenNot : Open
+  OpenParenthesis : Open
+  OpenAnd : (first : Condition) → Open
+  OpenOr : (first : Condition) → Open
 
--- what the place begins with: a condition is wanted; behind a field a comparison; behind that an operand; the same of bytes, which are
+-- what the place begins with: a condition is wanted; after a field a comparison; after that an operand; the same of bytes, which are
 -- to be there or not; or a condition is whole, but for what is open
 pub data Stage : Type 0 where
   Wanted : Stage
@@ -41,22 +41,22 @@ pub record State : Type 0 where
 -- a condition is whole: a `!` and an `&&` before it take it
 abbrev pub settled : List Open → Condition → State
 settled [] p = record { stage = Whole p; before = [] }
-settled (Opposite ∷ before) p = settled before (Not p)
-settled (Both first ∷ before) p = settled before (And first p)
-settled (Parenthesis ∷ before) p = record { stage = Whole p; before = Parenthesis ∷ before }
-settled (Either first ∷ before) p = record { stage = Whole p; before = Either first ∷ before }
+settled (OpenNot ∷ before) p = settled before (Not p)
+settled (OpenAnd first ∷ before) p = settled before (And first p)
+settled (OpenParenthesis ∷ before) p = record { stage = Whole p; before = OpenParenthesis ∷ before }
+settled (OpenOr first ∷ before) p = record { stage = Whole p; before = OpenOr first ∷ before }
 
 -- an `||` before a condition takes it too
-abbrev pub with_either : List Open → Condition → Condition × List Open
-with_either (Either first ∷ before) p = (Or first p, before)
-with_either (Opposite ∷ before) p = (p, Opposite ∷ before)
-with_either (Parenthesis ∷ before) p = (p, Parenthesis ∷ before)
-with_either (Both first ∷ before) p = (p, Both first ∷ before)
-with_either [] p = (p, [])
+abbrev pub with_or : List Open → Condition → Condition × List Open
+with_or (OpenOr first ∷ before) p = (Or first p, before)
+with_or (OpenNot ∷ before) p = (p, OpenNot ∷ before)
+with_or (OpenParenthesis ∷ before) p = (p, OpenParenthesis ∷ before)
+with_or (OpenAnd first ∷ before) p = (p, OpenAnd first ∷ before)
+with_or [] p = (p, [])
 
 -- a `)` closes the parenthesis that is open
 abbrev pub closed : ℕ → Condition × List Open → Result State WordFault
-closed column (p, Parenthesis ∷ before) = Ok (settled before p)
+closed column (p, OpenParenthesis ∷ before) = Ok (settled before p)
 closed column (p, _) = refused column kinds.NotOpened
 
 -- a condition is all where nothing is open
@@ -64,7 +64,7 @@ abbrev pub all_of : ℕ → Condition × List Open → Result Condition WordFaul
 all_of column (p, []) = Ok p
 all_of column (p, _) = refused column kinds.NotClosed
 
--- a name or an offset of bytes, as what is compared
+-- a field or an offset of bytes, as what is compared
 abbrev pub subject_in : List (List ℕ × Field) → List ℕ → Option (List ℕ × List ℕ) → Result Stage FaultKind
 subject_in layout word None = field_of layout word >>= λ field. Ok (Compared field)
 subject_in layout word (Some parts) =
@@ -73,13 +73,14 @@ subject_in layout word (Some parts) =
 
 abbrev pub subject_of : List (List ℕ × Field) → List ℕ → Result Stage FaultKind
 subject_of layout word =
-    if is_word_byte (slice_index word 0) then subject_in layout word (cut_at 64 word) else Err kinds.Condition
+    if begins_number word || bytes_eq word (codes "arg") then Err kinds.Left
+    else (if is_word_byte (slice_index word 0) then subject_in layout word (cut_at 64 word) else Err kinds.Condition)
 
 -- a condition is wanted: a `!`, a `(`, or what is compared
 unfoldable pub wanted : List (List ℕ × Field) → ℕ → List ℕ → List Open → Result State WordFault
 wanted layout column word before =
-    if bytes_eq word (codes "!") then Ok (record { stage = Wanted; before = Opposite ∷ before })
-    else (if bytes_eq word (codes "(") then Ok (record { stage = Wanted; before = Parenthesis ∷ before })
+    if bytes_eq word (codes "!") then Ok (record { stage = Wanted; before = OpenNot ∷ before })
+    else (if bytes_eq word (codes "(") then Ok (record { stage = Wanted; before = OpenParenthesis ∷ before })
     else (at column (subject_of layout word) >>= λ stage. Ok (record { stage = stage; before = before })))
 
 -- bytes are to be there, or not
@@ -107,10 +108,10 @@ bytes_condition offset there bytes = if there then Bytes offset bytes else Not (
 -- a condition is whole: an `&&`, an `||` or a `)`
 unfoldable pub joined : ℕ → List ℕ → Condition → List Open → Result State WordFault
 joined column word p before =
-    if bytes_eq word (codes "&&") then Ok (record { stage = Wanted; before = Both p ∷ before })
+    if bytes_eq word (codes "&&") then Ok (record { stage = Wanted; before = OpenAnd p ∷ before })
     else (if bytes_eq word (codes "||")
-    then (let whole = with_either before p in Ok (record { stage = Wanted; before = Either whole.0 ∷ whole.1 }))
-    else (if bytes_eq word (codes ")") then closed column (with_either before p) else refused column kinds.Joint))
+    then (let whole = with_or before p in Ok (record { stage = Wanted; before = OpenOr whole.0 ∷ whole.1 }))
+    else (if bytes_eq word (codes ")") then closed column (with_or before p) else refused column kinds.Joint))
 
 -- what a word that is no blank makes of what is read so far
 abbrev pub next : List (List ℕ × Field) → ℕ → List ℕ → Stage → List Open → Result State WordFault
@@ -141,7 +142,7 @@ finished column (Compared field) before = refused column kinds.Comparison
 finished column (Against field comparison) before = refused column kinds.Operand
 finished column (BytesCompared offset) before = refused column kinds.BytesComparison
 finished column (AgainstBytes offset there) before = refused column kinds.Bytes
-finished column (Whole p) before = all_of column (with_either before p)
+finished column (Whole p) before = all_of column (with_or before p)
 
 -- what these words of a text of so many bytes make of what is read so far
 abbrev pub read_words : List (List ℕ × Field) → ℕ → List Cut → State → Result Condition WordFault

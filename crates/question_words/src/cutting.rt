@@ -4,11 +4,11 @@ ghost use Rattle.std.specs.Prelude.{◌≡◌, ◌<◌, ◌≤◌, true, not, le
 ghost use Rattle.std.specs.List.{position_or_len};
 ghost use Rattle.question_words.specs.Cutting.{is_word_byte, is_pair, width};
 
-/// The first word of a text, and the text behind it. A blank is a word too.
+/// The first word of a text, and the text after it. A blank is a word too.
 pub(crate) fn first_word(text: &[u8]) -> (&[u8], &[u8])
     requires { 0 < length text.now }
     ensures word { result.0.now ≡ take (width text.now) text.now }
-    ensures behind { result.1.now ≡ drop (width text.now) text.now }
+    ensures rest { result.1.now ≡ drop (width text.now) text.now }
     ensures shorter { length result.1.now < length text.now }
 {
     text.split_at(word_bytes(text))

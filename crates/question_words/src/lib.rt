@@ -5,13 +5,13 @@
 //! ```
 //!
 //! - A field is a type and the offset of its first byte, as `u32@8`, or a name of the layout. The types are `u8`, `u16`, `u32`, `u64`,
-//!   `i8`, `i16`, `i32` and `i64`; with `be` behind it the highest byte comes first, as in `u32be@0`.
-//! - A layout has a name and a field on each line, as `price i32@12`; what is behind a `;` is a comment.
+//!   `i8`, `i16`, `i32` and `i64`; with `be` after it the highest byte comes first, as in `u32be@0`.
+//! - A layout has a name and a field on each line, as `price i32@12`; what is after a `;` is a comment.
 //! - A field is compared by `==`, `!=`, `<`, `<=`, `>` or `>=` with a number of its type, with
 //!   `arg`, the argument of the run, or with a field that is signed as it is.
 //! - `bytes@8 == 0x6162` asks for the bytes 61h and 62h from offset 8 on; by `!=` it asks for others.
 //! - `!` takes what is next to it, `&&` is before `||`, and parentheses are before both.
-//! - Numbers are decimal, with a `-` in front where they are below zero, or hexadecimal behind `0x`.
+//! - Numbers are decimal, with a `-` in front where they are below zero, or hexadecimal after `0x`, without a `-`.
 #![tactic(auto)]
 
 mod cutting;

@@ -6,13 +6,13 @@ ghost use Rattle.common_definitions.specs.Gives.{Gives};
 ghost use Rattle.question_words.specs.Condition.{said};
 ghost use Rattle.question_words.specs.Fault.{at, fault_of};
 ghost use Rattle.question_words.specs.Layout.{entries};
-ghost use Rattle.question_words.specs.Reading.{all_of, bytes_condition, bytes_of, bytes_written, closed as closed_at, finished, is_blank, is_there, joined as joined_at, next as next_of, settled, step as step_of, subject_of, wanted as wanted_at, with_either, Wanted as AtWanted};
+ghost use Rattle.question_words.specs.Reading.{all_of, bytes_condition, bytes_of, bytes_written, closed as closed_at, finished, is_blank, is_there, joined as joined_at, next as next_of, settled, step as step_of, subject_of, wanted as wanted_at, with_or as with_or_of, Wanted as AtWanted};
 ghost use Rattle.question_words.specs.steps.Views.{open_view, opens, reading_view, stage_view};
 
 use crate::fault::{FaultKind, ReadFault, fault, located};
 use crate::field::{field, offset};
 use crate::layout::Layout;
-use crate::operand::{comparison, is_name, operand};
+use crate::operand::{begins_word, comparison, is_number, operand};
 use crate::stack::{Open, put, take};
 use hex::FromHexError;
 use record_questions::{Comparison, Field, Predicate};
@@ -24,11 +24,11 @@ use text_lines::cut;
 pub(crate) enum Stage {
     /// A condition is wanted.
     Wanted,
-    /// A comparison is wanted behind this field.
+    /// A comparison is wanted after this field.
     Compared(Field),
-    /// An operand is wanted behind this field and comparison.
+    /// An operand is wanted after this field and comparison.
     Against(Field, Comparison),
-    /// `==` or `!=` is wanted behind the offset of bytes.
+    /// `==` or `!=` is wanted after the offset of bytes.
     BytesCompared(u16),
     /// The bytes are wanted, which are to be there or not.
     AgainstBytes(u16, bool),
@@ -45,7 +45,7 @@ pub(crate) struct Reading {
     pub(crate) before: Vec<Open>,
 }
 
-/// What is read behind one more word.
+/// What is read after one more word.
 pub(crate) fn step(
     alloc: Global,
     layout: &Layout,
@@ -119,7 +119,7 @@ fn wanted(
     ensures { Gives fault_of reading_view result (wanted_at (entries layout.now) column word.now (opens before.items)) }
 {
     match word {
-        b"!" => Ok(opened(before, Open::Opposite)?),
+        b"!" => Ok(opened(before, Open::Not)?),
         b"(" => Ok(opened(before, Open::Parenthesis)?),
         _ => {
             let stage = located(column, subject(layout, word))?;
@@ -128,7 +128,7 @@ fn wanted(
     }
 }
 
-/// A condition is wanted behind what is opened.
+/// A condition is wanted after what is opened.
 fn opened(before: Vec<Open>, part: Open) -> Result<Reading, AllocError>
     ensures { IfOk result (λ reading. reading_view reading
         ≡ record { stage = AtWanted; before = open_view part ∷ opens before.items }) }
@@ -145,7 +145,10 @@ fn opened(before: Vec<Open>, part: Open) -> Result<Reading, AllocError>
 fn subject(layout: &Layout, word: &[u8]) -> Result<Stage, FaultKind>
     ensures { result_map_both stage_view (λ kind. kind) result ≡ subject_of (entries layout.now) word.now }
 {
-    if !is_name(word) {
+    if is_number(word) || matches!(word, b"arg") {
+        return Err(FaultKind::Left);
+    }
+    if !begins_word(word) {
         return Err(FaultKind::Condition);
     }
     if let Some((b"bytes", at)) = cut(word, b'@') {
@@ -205,7 +208,7 @@ fn bytes_predicate(
     Ok(Predicate::Not(Box::new(alloc, condition)?))
 }
 
-/// A condition is whole: an `&&`, an `||` or a `)` is behind it.
+/// A condition is whole: an `&&`, an `||` or a `)` is after it.
 #[tactic(auto, unfolding(crate::specs::Reading::joined))]
 fn joined(
     alloc: Global,
@@ -217,10 +220,10 @@ fn joined(
     ensures { Gives fault_of reading_view result (joined_at column word.now (said condition) (opens before.items)) }
 {
     match word {
-        b"&&" => Ok(opened(before, Open::Both(condition))?),
+        b"&&" => Ok(opened(before, Open::And(condition))?),
         b"||" => {
             let (condition, before) = with_or(alloc, before, condition)?;
-            Ok(opened(before, Open::Either(condition))?)
+            Ok(opened(before, Open::Or(condition))?)
         }
         b")" => {
             let (condition, before) = with_or(alloc, before, condition)?;
@@ -254,8 +257,8 @@ fn settle(alloc: Global, before: Vec<Open>, condition: Predicate) -> Result<Read
     let mut whole = condition;
     while let Some(part) = take(&mut before) {
         match part {
-            Open::Opposite => whole = Predicate::Not(Box::new(alloc, whole)?),
-            Open::Both(first) => {
+            Open::Not => whole = Predicate::Not(Box::new(alloc, whole)?),
+            Open::And(first) => {
                 let first = Box::new(alloc, first)?;
                 whole = Predicate::And(first, Box::new(alloc, whole)?);
             }
@@ -277,11 +280,11 @@ fn with_or(
     before: Vec<Open>,
     condition: Predicate,
 ) -> Result<(Predicate, Vec<Open>), AllocError>
-    ensures { IfOk result (λ whole. (said whole.0, opens whole.1.items) ≡ with_either (opens before.items) (said condition)) }
+    ensures { IfOk result (λ whole. (said whole.0, opens whole.1.items) ≡ with_or_of (opens before.items) (said condition)) }
 {
     let mut before = before;
     match take(&mut before) {
-        Some(Open::Either(first)) => {
+        Some(Open::Or(first)) => {
             let first = Box::new(alloc, first)?;
             Ok((Predicate::Or(first, Box::new(alloc, condition)?), before))
         }
@@ -316,7 +319,7 @@ fn all(
     before: Vec<Open>,
     condition: Predicate,
 ) -> Result<Predicate, ReadFault>
-    ensures { Gives fault_of said result (all_of column (with_either (opens before.items) (said condition))) }
+    ensures { Gives fault_of said result (all_of column (with_or_of (opens before.items) (said condition))) }
 {
     let (condition, before) = with_or(alloc, before, condition)?;
     only(column, before, condition)

@@ -65,6 +65,7 @@ fn faults_have_columns(rt: HostRuntime) -> Result<(), Fail> {
     let alloc = rt.alloc();
     refuses(&rt, alloc, "", 1, FaultKind::Condition)?;
     refuses(&rt, alloc, "cost < 1", 1, FaultKind::Name)?;
+    refuses(&rt, alloc, "1 < region", 1, FaultKind::Left)?;
     refuses(&rt, alloc, "u8@0 < 256", 8, FaultKind::Range)?;
     refuses(&rt, alloc, "(u8@0 < 25", 11, FaultKind::NotClosed)?;
     refuses(&rt, alloc, "u8@0 < 25)", 10, FaultKind::NotOpened)?;

@@ -10,10 +10,10 @@ use Rattle.question_words.specs.Reading as readings
 
 -- what is open
 abbrev pub open_view : Open → readings.Open
-open_view parts.Opposite = readings.Opposite
-open_view parts.Parenthesis = readings.Parenthesis
-open_view (parts.Both first) = readings.Both (said first)
-open_view (parts.Either first) = readings.Either (said first)
+open_view parts.Not = readings.OpenNot
+open_view parts.Parenthesis = readings.OpenParenthesis
+open_view (parts.And first) = readings.OpenAnd (said first)
+open_view (parts.Or first) = readings.OpenOr (said first)
 
 -- all that is open: the code has the nearest last
 unfoldable pub opens : List Open → List readings.Open
