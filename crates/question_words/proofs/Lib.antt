@@ -5,3 +5,4 @@ mod Named
 mod Steps
 mod WordsAgain
 mod ReadBack
+mod Fitting

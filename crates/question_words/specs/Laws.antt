@@ -73,3 +73,13 @@ NamesRead =
     → is_field_name name ≡ true → field_named layout name ≡ Some field → IsOperand field operand
     → length (named_text name comparison operand) ≤ MOST_BYTES
     → condition_of layout (named_text name comparison operand) ≡ Ok (Compare field comparison operand)
+
+-- a layout whose fields' offsets fit, as each does that code can make
+abbrev pub IsLayout : List (List ℕ × Field) → Type 0
+IsLayout layout = (name : List ℕ) (field : Field) → field_named layout name ≡ Some field → IsField field
+
+-- what is read of a text is a condition whose numbers fit, so that what is printed of it is read back
+abbrev pub ReadIsCondition : Type 0
+ReadIsCondition =
+    (layout : List (List ℕ × Field)) (text : List ℕ) (p : Condition) → IsLayout layout → condition_of layout text ≡ Ok p
+    → IsCondition p

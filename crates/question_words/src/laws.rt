@@ -1,6 +1,6 @@
 //! The laws of questions in words. The functions do nothing: what they ensure is the laws.
 
-ghost use Rattle.question_words.specs.Laws.{NamesRead, OtherBytesRead, WordsHavePrecedence, WordsReadBack};
+ghost use Rattle.question_words.specs.Laws.{NamesRead, OtherBytesRead, ReadIsCondition, WordsHavePrecedence, WordsReadBack};
 
 /// What is printed of a condition is read as the same, whatever the layout, where its numbers fit their fields, its bytes are one or
 /// more, and its text has at most `MOST_BYTES` bytes.
@@ -22,4 +22,10 @@ pub fn other_bytes_are_read()
 /// A name of the layout is read as its field.
 pub fn names_are_read()
     ensures { NamesRead }
+{}
+
+/// Of a condition that is read by a layout whose fields' offsets are below 2^16, numbers fit their fields and bytes are one or more, so
+/// that what is printed of it is read back.
+pub fn read_is_condition()
+    ensures { ReadIsCondition }
 {}
