@@ -249,7 +249,7 @@ pub name_begins_comparison : (name : List ℕ) → is_field_name name ≡ true �
 name_begins_comparison name h =
     let parts = three_parts (begins_name (slice_index name 0)) (list_all is_name_byte name) (not (is_taken_word name)) h in
     or_from (begins_number name) (bytes_eq name (codes "arg")) (no_number (slice_index name 0) parts.0)
-    (or_parts (bytes_eq name (codes "arg")) (bytes_eq name (codes "bytes")) (not-true (is_taken_word name) parts.1.1)).0
+    (or_parts (bytes_eq name (codes "arg")) (bytes_eq name (codes "bytes") || bytes_eq name (codes "in")) (not-true (is_taken_word name) parts.1.1)).0
 
 pub cut_name : (name : List ℕ) → is_field_name name ≡ true → cut_at 64 name ≡ None
 cut_name name h =

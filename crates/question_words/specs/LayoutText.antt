@@ -33,7 +33,7 @@ begins_name byte = is_ascii_alphabetic byte || byte == 95
 
 -- is it a word that questions have of their own?
 abbrev pub is_taken_word : List ℕ → Bool
-is_taken_word word = bytes_eq word (codes "arg") || bytes_eq word (codes "bytes")
+is_taken_word word = bytes_eq word (codes "arg") || (bytes_eq word (codes "bytes") || bytes_eq word (codes "in"))
 
 -- can a field have this name?
 abbrev pub is_field_name : List ℕ → Bool

@@ -14,11 +14,11 @@ pub struct NamedField {
     pub field: Field,
 }
 
-/// The names by which a question can speak of fields. `read_layout` alone makes one, so each is a name that a field can have.
+/// The names by which a question can speak of fields. A name that no field can have, as `arg`, is of no use.
 #[derive(Drop)]
 pub struct Layout {
     /// Each name with its field. Of two that are the same the first counts.
-    pub(crate) fields: Vec<NamedField>,
+    pub fields: Vec<NamedField>,
 }
 
 impl Layout {

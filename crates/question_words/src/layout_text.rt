@@ -20,7 +20,7 @@ use thiserror::Error;
 #[derive(Clone, Copy, Debug, PartialEq, Eq, Error)]
 pub enum LineKind {
     /// Its first word is no name.
-    #[error("a name is expected: letters, digits and _, no digit first, and neither arg nor bytes")]
+    #[error("a name is expected: letters, digits and _, no digit first, and none of arg, bytes and in")]
     Name,
     /// An earlier line has its name.
     #[error("an earlier line has the same name")]
@@ -177,5 +177,5 @@ fn has_name_bytes(word: &[u8]) -> bool
 fn is_taken(word: &[u8]) -> bool
     ensures { result ≡ is_taken_word word.now }
 {
-    matches!(word, b"arg" | b"bytes")
+    matches!(word, b"arg" | b"bytes" | b"in")
 }
