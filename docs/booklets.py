@@ -40,6 +40,13 @@ ROOTS: List[Key] = [
     ("question_runs/specs/Loaded.antt", "CompiledQuestionsLoad"),
     ("record_questions/specs/Tallies.antt", "WordsAreTallied"),
     ("record_questions/specs/Tallies.antt", "TalliesAreTold"),
+    ("question_words/specs/Condition.antt", "said"),
+    ("question_words/specs/LayoutText.antt", "layout_of"),
+    ("question_words/specs/Laws.antt", "WordsReadBack"),
+    ("question_words/specs/Laws.antt", "WordsHavePrecedence"),
+    ("question_words/specs/Laws.antt", "OtherBytesRead"),
+    ("question_words/specs/Laws.antt", "NamesRead"),
+    ("question_words/specs/Laws.antt", "ReadIsCondition"),
 ]
 
 # what is named there and stands in no booklet, each with the reason
@@ -249,10 +256,26 @@ QUESTIONS = Booklet(
     ],
 )
 
+WORDS = Booklet(
+    "words",
+    "Questions in words",
+    [
+        Section("Where words end", r"question_words/specs/Cutting\."),
+        Section(
+            "Numbers, fields and operands",
+            r"question_words/(specs/(Fault|Layout|Number|Field|Operand)|src/(fault|layout))\.|text_lines/",
+        ),
+        Section("How a condition is read", r"question_words/specs/(Condition|Reading)\.|question_words/src/reading\."),
+        Section("The text of a condition", r"question_words/specs/Printing\."),
+        Section("Layouts", r"question_words/(specs|src)/(LayoutText|layout_text)\."),
+        Section("What is proved of them", r"question_words/specs/Laws\."),
+    ],
+)
+
 # in the order in which the pages name them
-BOOKLETS = [COMMANDS, RFC_9669, RUNS, DEVICE, ACCEPTANCE, QUESTIONS]
+BOOKLETS = [COMMANDS, RFC_9669, RUNS, DEVICE, ACCEPTANCE, QUESTIONS, WORDS]
 # where several have a file, the first of these that takes it
-BY_FILES = [QUESTIONS, RUNS, DEVICE, ACCEPTANCE, RFC_9669, COMMANDS]
+BY_FILES = [WORDS, QUESTIONS, RUNS, DEVICE, ACCEPTANCE, RFC_9669, COMMANDS]
 
 # a place: the number of a booklet, and that of a section in it
 At = Tuple[int, int]
