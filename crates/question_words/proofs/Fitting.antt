@@ -1,5 +1,5 @@
 -- What is read of a text is a condition whose numbers fit their fields.
-use Rattle.std.proofs.Common.{◌≡◌, ℕ, ℤ, ◌+◌, ◌-◌, ◌<◌, ◌^◌, Bool, true, false, cond, eqb, ltb, ◌&&◌, ◌||◌, List, [], ◌∷◌, length, get_or, drop, Option, Some, None, Result, Ok, Err, IfOk, ok_or, bytes_eq, refl, subst, codes, arith}
+use Rattle.std.proofs.Common.{◌≡◌, ℕ, ℤ, zero, suc, ◌+◌, ◌-◌, ◌<◌, ◌^◌, Bool, true, false, cond, eqb, ltb, ◌&&◌, ◌||◌, List, [], ◌∷◌, length, get_or, drop, Option, Some, None, Result, Ok, Err, IfOk, ok_or, bytes_eq, refl, subst, codes, arith}
 use Rattle.std.specs.Prelude.{⊤}
 use Rattle.std.proofs.lemmas.Bool.{ltb-true}
 use Rattle.hex.specs.Hex.{IsBytes, decode_of}
@@ -72,9 +72,14 @@ decoded_fits : {E : Type 0} (r : Result (List ℕ) E) → ((bytes : List ℕ) �
 decoded_fits (Ok bytes) h = h bytes refl
 decoded_fits (Err e) h = tt
 
+not_none : (n : ℕ) → eqb n 0 ≡ false → 0 < n
+not_none zero h = absurd cc
+not_none (suc n) h = omega arith
+
 written_fits : (digits : List ℕ) → IfOk (bytes_written digits) AreBytes
-written_fits [] = tt
-written_fits (d ∷ ds) = decoded_fits (decode_of (d ∷ ds)) (λ bytes h. let ok = decode_of-ok (d ∷ ds) bytes h in (ok.3, omega (arith, ok.2)))
+written_fits digits =
+    chosen AreBytes (eqb (length digits) 0) (Err kinds.Bytes) (decoded (decode_of digits)) (λ e. tt)
+    (λ e. decoded_fits (decode_of digits) (λ bytes h. let ok = decode_of-ok digits bytes h in let some = not_none (length digits) e in (ok.3, omega (arith, ok.2, some))))
 
 bytes_fit : (word : List ℕ) → IfOk (bytes_of word) AreBytes
 bytes_fit word = chosen AreBytes (eqb (get_or word 0 0) 48 && eqb (get_or word 1 0) 120) (bytes_written (drop 2 word)) (Err kinds.Bytes) (λ e. written_fits (drop 2 word)) (λ e. tt)

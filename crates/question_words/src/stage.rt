@@ -1,12 +1,15 @@
 //! What is read so far, and what a word makes of it.
 
-ghost use Rattle.std.specs.Prelude.{◌≡◌, ◌∷◌, IfOk};
+ghost use Rattle.std.specs.Prelude.{◌≡◌, ◌∷◌, ◌||◌, codes, IfOk};
+ghost use Rattle.std.specs.Str.{bytes_eq};
 ghost use Rattle.std.specs.Result.{result_map_both};
 ghost use Rattle.common_definitions.specs.Gives.{Gives};
+ghost use Rattle.text_lines.specs.Cut.{cut_at};
 ghost use Rattle.question_words.specs.Condition.{said};
 ghost use Rattle.question_words.specs.Fault.{at, fault_of};
 ghost use Rattle.question_words.specs.Layout.{entries};
-ghost use Rattle.question_words.specs.Reading.{all_of, bytes_condition, bytes_of, bytes_written, closed as closed_at, finished, is_blank, is_there, joined as joined_at, next as next_of, settled, step as step_of, subject_of, wanted as wanted_at, with_or as with_or_of, Wanted as AtWanted};
+ghost use Rattle.question_words.specs.Operand.{begins_number};
+ghost use Rattle.question_words.specs.Reading.{all_of, bytes_condition, bytes_of, bytes_written, closed as closed_at, finished, is_blank, is_there, joined as joined_at, next as next_of, settled, step as step_of, subject_in, subject_of, wanted as wanted_at, with_or as with_or_of, Wanted as AtWanted};
 ghost use Rattle.question_words.specs.steps.Views.{open_view, opens, reading_view, stage_view};
 
 use crate::fault::{FaultKind, ReadFault, fault, located};
@@ -145,12 +148,26 @@ fn opened(before: Vec<Open>, part: Open) -> Result<Reading, AllocError>
 fn subject(layout: &Layout, word: &[u8]) -> Result<Stage, FaultKind>
     ensures { result_map_both stage_view (λ kind. kind) result ≡ subject_of (entries layout.now) word.now }
 {
-    if is_number(word) || matches!(word, b"arg") {
-        return Err(FaultKind::Left);
+    if is_on_the_right(word) {
+        Err(FaultKind::Left)
+    } else if begins_word(word) {
+        named(layout, word)
+    } else {
+        Err(FaultKind::Condition)
     }
-    if !begins_word(word) {
-        return Err(FaultKind::Condition);
-    }
+}
+
+/// Is it a number, or the argument?
+fn is_on_the_right(word: &[u8]) -> bool
+    ensures { result ≡ (begins_number word.now || bytes_eq word.now (codes "arg")) }
+{
+    is_number(word) || matches!(word, b"arg")
+}
+
+/// The field or the bytes that a word says.
+fn named(layout: &Layout, word: &[u8]) -> Result<Stage, FaultKind>
+    ensures { result_map_both stage_view (λ kind. kind) result ≡ subject_in (entries layout.now) word.now (cut_at 64 word.now) }
+{
     if let Some((b"bytes", at)) = cut(word, b'@') {
         return Ok(Stage::BytesCompared(offset(at)?));
     }
