@@ -32,6 +32,3 @@ pub use layout::{Layout, NamedField};
 pub use layout_text::{LayoutFault, LineKind, read_layout};
 pub use printing::text_of;
 pub use reading::{MOST_BYTES, read};
-
-#[cfg(test)]
-mod tests;
