@@ -46,6 +46,8 @@ ROOTS: List[Key] = [
     ("question_words/specs/Laws.antt", "WordsHavePrecedence"),
     ("question_words/specs/Laws.antt", "OtherBytesRead"),
     ("question_words/specs/Laws.antt", "NamesRead"),
+    ("question_words/specs/Laws.antt", "RangesRead"),
+    ("question_words/specs/Laws.antt", "SetsRead"),
     ("question_words/specs/Laws.antt", "ReadIsCondition"),
 ]
 
@@ -265,7 +267,7 @@ WORDS = Booklet(
             "Numbers, fields and operands",
             r"question_words/(specs/(Fault|Layout|Number|Field|Operand)|src/(fault|layout))\.|text_lines/",
         ),
-        Section("How a condition is read", r"question_words/specs/(Condition|Reading)\.|question_words/src/reading\."),
+        Section("How a condition is read", r"question_words/specs/(Condition|Within|Reading)\.|question_words/src/reading\."),
         Section("The text of a condition", r"question_words/specs/Printing\."),
         Section("Layouts", r"question_words/(specs|src)/(LayoutText|layout_text)\."),
         Section("What is proved of them", r"question_words/specs/Laws\."),

@@ -238,7 +238,7 @@ MARKS: Dict[str, str] = {
     "question_words/src/layout_text.rt": "P: LineKind",
     "question_words/src/reading.rt": "P: MOST_BYTES",
     "question_words/specs/Condition.antt": "P: Condition said",
-    "question_words/specs/Cutting.antt": "P: is_word_byte is_pair width Cut cuts_after cuts",
+    "question_words/specs/Cutting.antt": "P: is_word_byte is_pair symbol_width width Cut cuts_after cuts",
     "question_words/specs/Fault.antt": "-: refused at",
     "question_words/specs/Field.antt": (
         "P: sign_letter shape_text field_text sign_of shape_of offset_in offset_of typed_of field_in field_of"
@@ -249,8 +249,8 @@ MARKS: Dict[str, str] = {
         "with_lines layout_of; -: as_line at_line"
     ),
     "question_words/specs/Laws.antt": (
-        "-: IsField IsOperand IsCondition ReadsAs WordsReadBack row_text Precedence WordsHavePrecedence OtherBytesRead "
-        "named_text NamesRead IsLayout ReadIsCondition"
+        "-: IsField IsOperand IsCondition ReadsBy ReadsAs WordsReadBack row_text Precedence WordsHavePrecedence OtherBytesRead "
+        "named_text NamesRead Says range_text RangesRead rest_text set_text either_of SetsRead IsLayout ReadIsCondition"
     ),
     "question_words/specs/Number.antt": "P: numeral_of magnitude_of literal_of",
     "question_words/specs/Operand.antt": (
@@ -260,8 +260,10 @@ MARKS: Dict[str, str] = {
     "question_words/specs/Printing.antt": "P: bytes_text not_text part_text condition_text",
     "question_words/specs/Reading.antt": (
         "P: Open Stage State settled with_or closed all_of subject_in subject_of wanted is_there decoded bytes_written bytes_of "
-        "bytes_condition joined next is_blank step finished read_words at_start condition_of"
+        "bytes_condition joined in_state listed bounded begun next_within compared next is_blank step wanted_within finished "
+        "read_words at_start condition_of"
     ),
+    "question_words/specs/Within.antt": "P: range_condition one_condition more_condition bound_of Within",
     "text_lines/specs/Cut.antt": "P: cut_at is_blank_byte without_first_blanks without_end_blanks trimmed uncommented",
     "text_lines/specs/Number.antt": "P: number_below decimal_of",
     "pushdown/specs/ReadBack.antt": (

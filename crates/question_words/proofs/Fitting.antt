@@ -22,7 +22,8 @@ use Rattle.question_words.specs.Laws.{IsCondition, IsField, IsLayout, IsOperand,
 use Rattle.question_words.specs.Layout.{field_named}
 use Rattle.question_words.specs.Number.{literal_of}
 use Rattle.question_words.specs.Operand.{begins_number, comparison_of, field_for, is_of_type, is_same_sign, number_for, operand_of}
-use Rattle.question_words.specs.Reading.{Against, AgainstBytes, BytesCompared, Compared, Open, OpenAnd, OpenNot, OpenOr, OpenParenthesis, Stage, State, Wanted, Whole, all_of, at_start, bytes_condition, bytes_of, bytes_written, closed, condition_of, decoded, finished, is_blank, is_there, joined, next, read_words, settled, step, subject_in, subject_of, wanted, with_or}
+use Rattle.question_words.specs.Reading.{Against, AgainstBytes, BytesCompared, Compared, In, Open, OpenAnd, OpenNot, OpenOr, OpenParenthesis, Stage, State, Wanted, Whole, all_of, at_start, begun, bounded, bytes_condition, bytes_of, bytes_written, closed, compared, condition_of, decoded, finished, in_state, is_blank, is_there, joined, listed, next, next_within, read_words, settled, step, subject_in, subject_of, wanted, with_or}
+use Rattle.question_words.specs.Within.{Begun, First, From, Listed, More, Until, Within, bound_of, more_condition, one_condition, range_condition}
 
 -- ---- one reading after another
 
@@ -100,12 +101,21 @@ abbrev AreOpen : List Open → Type 0
 AreOpen [] = ⊤
 AreOpen (part ∷ before) = IsOpen part × AreOpen before
 
+abbrev IsPart : Field → Within → Type 0
+IsPart field Begun = ⊤
+IsPart field (From least) = IsOperand field least
+IsPart field (Until least comparison) = IsOperand field least
+IsPart field First = ⊤
+IsPart field (Listed p) = IsCondition p
+IsPart field (More p) = IsCondition p
+
 abbrev IsStage : Stage → Type 0
 IsStage Wanted = ⊤
 IsStage (Compared field) = IsField field
 IsStage (Against field comparison) = IsField field
 IsStage (BytesCompared offset) = offset < 2 ^ 16
 IsStage (AgainstBytes offset there) = offset < 2 ^ 16
+IsStage (In field part) = IsField field × IsPart field part
 IsStage (Whole p) = IsCondition p
 
 abbrev IsState : State → Type 0
@@ -143,6 +153,20 @@ all_fits : (column : ℕ) (p : Condition) (before : List Open) → IsCondition p
 all_fits column p [] c = c
 all_fits column p (part ∷ before) c = tt
 
+listed_fits : (column : ℕ) (word : List ℕ) (field : Field) (p : Condition) (before : List Open) → IsField field → IsCondition p → AreOpen before → IfOk (listed column word field p before) IsState
+unfolding listed
+listed_fits column word field p before s c h =
+    let rest = cond (bytes_eq word (codes "}")) (Ok (settled before p)) (refused column kinds.Element) in
+    chosen IsState (bytes_eq word (codes ",")) (Ok (in_state field (More p) before)) rest (λ e. ((s, c), h))
+    (λ e. chosen IsState (bytes_eq word (codes "}")) (Ok (settled before p)) (refused column kinds.Element) (λ f. settled_fits before p h c) (λ f. tt))
+
+compared_step_fits : (column : ℕ) (word : List ℕ) (field : Field) (before : List Open) → IsField field → AreOpen before → IfOk (compared column word field before) IsState
+unfolding compared
+compared_step_fits column word field before s h =
+    let other = at column (comparison_of word) >>= λ comparison. Ok (record { stage = Against field comparison; before = before }) in
+    chosen IsState (bytes_eq word (codes "in")) (Ok (in_state field Begun before)) other (λ e. ((s, tt), h))
+    (λ e. after_any IsState (at column (comparison_of word)) (λ comparison. Ok (record { stage = Against field comparison; before = before })) (λ comparison. (s, h)))
+
 joined_fits : (column : ℕ) (word : List ℕ) (p : Condition) (before : List Open) → AreOpen before → IsCondition p → IfOk (joined column word p before) IsState
 unfolding joined
 joined_fits column word p before h c =
@@ -159,6 +183,7 @@ finished_fits column (Compared field) before s h = tt
 finished_fits column (Against field comparison) before s h = tt
 finished_fits column (BytesCompared offset) before s h = tt
 finished_fits column (AgainstBytes offset there) before s h = tt
+finished_fits column (In field part) before s h = tt
 finished_fits column (Whole p) before s h = all_fits column (with_or before p).0 (with_or before p).1 (or_condition before p h s)
 
 module _ (layout : List (List ℕ × Field)) (fits : IsLayout layout) where
@@ -202,10 +227,35 @@ module _ (layout : List (List ℕ × Field)) (fits : IsLayout layout) where
       (λ e. chosen IsState (bytes_eq word (codes "(")) (Ok (record { stage = Wanted; before = OpenParenthesis ∷ before })) subject (λ f. (tt, (tt, h)))
       (λ f. chained IsStage IsState (at column (subject_of layout word)) (λ stage. Ok (record { stage = stage; before = before })) (placed IsStage column (subject_of layout word) (subject_fits word)) (λ stage s. (s, h))))
 
+  -- an operand, and what it makes
+  operand_makes : (column : ℕ) (word : List ℕ) (field : Field) (make : Operand → State) → ((o : Operand) → IsOperand field o → IsState (make o))
+      → IfOk (at column (operand_of layout field word) >>= λ o. Ok (make o)) IsState
+  operand_makes column word field make f =
+      chained (IsOperand field) IsState (at column (operand_of layout field word)) (λ o. Ok (make o)) (placed (IsOperand field) column (operand_of layout field word) (operand_fits field word)) f
+
+  begun_fits : (column : ℕ) (word : List ℕ) (field : Field) (before : List Open) → IsField field → AreOpen before → IfOk (begun layout column word field before) IsState
+  unfolding begun bounded
+  begun_fits column word field before s h =
+      chosen IsState (bytes_eq word (codes "{")) (Ok (in_state field First before)) (at column (operand_of layout field word) >>= λ least. Ok (in_state field (From least) before)) (λ e. ((s, tt), h))
+      (λ e. operand_makes column word field (λ least. in_state field (From least) before) (λ o fits. ((s, fits), h)))
+
+  within_fits : (column : ℕ) (word : List ℕ) (field : Field) (part : Within) (before : List Open) → IsField field → IsPart field part → AreOpen before
+      → IfOk (next_within layout column word field part before) IsState
+  unfolding next_within
+  within_fits column word field Begun before s p h = begun_fits column word field before s h
+  within_fits column word field (From least) before s p h =
+      after_any IsState (at column (bound_of word)) (λ comparison. Ok (in_state field (Until least comparison) before)) (λ comparison. ((s, p), h))
+  within_fits column word field (Until least comparison) before s p h =
+      operand_makes column word field (λ bound. settled before (range_condition field least comparison bound))
+      (λ o fits. settled_fits before (range_condition field least comparison o) h ((s, p), (s, fits)))
+  within_fits column word field First before s p h = operand_makes column word field (λ o. in_state field (Listed (one_condition field o)) before) (λ o fits. ((s, (s, fits)), h))
+  within_fits column word field (Listed c) before s p h = listed_fits column word field c before s p h
+  within_fits column word field (More c) before s p h =
+      operand_makes column word field (λ o. in_state field (Listed (more_condition c field o)) before) (λ o fits. ((s, (p, (s, fits))), h))
+
   next_fits : (column : ℕ) (word : List ℕ) (stage : Stage) (before : List Open) → IsStage stage → AreOpen before → IfOk (next layout column word stage before) IsState
   next_fits column word Wanted before s h = wanted_fits column word before h
-  next_fits column word (Compared field) before s h =
-      after_any IsState (at column (comparison_of word)) (λ comparison. Ok (record { stage = Against field comparison; before = before })) (λ comparison. (s, h))
+  next_fits column word (Compared field) before s h = compared_step_fits column word field before s h
   next_fits column word (Against field comparison) before s h =
       chained (IsOperand field) IsState (at column (operand_of layout field word)) (λ operand. Ok (settled before (Compare field comparison operand)))
       (placed (IsOperand field) column (operand_of layout field word) (operand_fits field word)) (λ operand o. settled_fits before (Compare field comparison operand) h (s, o))
@@ -214,6 +264,7 @@ module _ (layout : List (List ℕ × Field)) (fits : IsLayout layout) where
   next_fits column word (AgainstBytes offset there) before s h =
       chained AreBytes IsState (at column (bytes_of word)) (λ bytes. Ok (settled before (bytes_condition offset there bytes)))
       (placed AreBytes column (bytes_of word) (bytes_fit word)) (λ bytes b. settled_fits before (bytes_condition offset there bytes) h (bytes_condition_fits offset there bytes (s, b)))
+  next_fits column word (In field part) before s h = within_fits column word field part before s.0 s.1 h
   next_fits column word (Whole p) before s h = joined_fits column word p before h s
 
   step_fits : (column : ℕ) (word : List ℕ) (s : State) → IsState s → IfOk (step layout column word s) IsState

@@ -5,4 +5,5 @@ mod Named
 mod Steps
 mod WordsAgain
 mod ReadBack
+mod RangesAgain
 mod Fitting

@@ -27,28 +27,28 @@ use Rattle.question_words.specs.Layout.{field_named}
 use Rattle.question_words.specs.LayoutText.{is_field_name}
 use Rattle.question_words.specs.Operand.{comparison_text, operand_word}
 use Rattle.question_words.specs.Printing.{bytes_text, condition_text, not_text, part_text}
-use Rattle.question_words.specs.Reading.{Against, AgainstBytes, BytesCompared, OpenAnd, Compared, OpenOr, Open, OpenNot, OpenParenthesis, Stage, State, Wanted, Whole, at_start, bytes_condition, condition_of, decoded, joined, next, read_words, settled, step, subject_in, subject_of, wanted, with_or}
+use Rattle.question_words.specs.Reading.{Against, AgainstBytes, BytesCompared, OpenAnd, Compared, OpenOr, Open, OpenNot, OpenParenthesis, Stage, State, Wanted, Whole, at_start, bytes_condition, compared, condition_of, decoded, joined, next, read_words, settled, step, subject_in, subject_of, wanted, with_or}
 use Rattle.question_words.proofs.FirstWords.{cuts_none, cuts_word, word_width}
 use Rattle.question_words.proofs.WordsAgain.{IsWord, cut_field, cut_name, cut_there, field_again, field_is_word, name_again, name_begins_comparison, name_is_word, no_blank, no_symbol, offset_again, operand_again, operand_is_word, word_decimal, word_hex}
 
 module _ (layout : List (List ℕ × Field)) (bytes : ℕ) where
   -- what a text makes of what is read so far
-  reading : List ℕ → State → Result Condition WordFault
+  pub reading : List ℕ → State → Result Condition WordFault
   reading text s = read_words layout bytes (cuts text) s
 
   -- one word
-  goes_on : (w r : List ℕ) (s after : State) → 0 < length w → width (w ++ r) ≡ length w → ((column : ℕ) → step layout column w s ≡ Ok after) → reading (w ++ r) s ≡ reading r after
+  pub goes_on : (w r : List ℕ) (s after : State) → 0 < length w → width (w ++ r) ≡ length w → ((column : ℕ) → step layout column w s ≡ Ok after) → reading (w ++ r) s ≡ reading r after
   unfolding reading
   goes_on w r s after some wide h =
       ap (λ (cs : List Cut). read_words layout bytes cs s) (cuts_word w r some wide)
       ∙ ap (λ (x : Result State WordFault). x >>= λ next. read_words layout bytes (cuts r) next) (h _)
 
   -- a space
-  blank : (r : List ℕ) (s : State) → reading (32 ∷ r) s ≡ reading r s
+  pub blank : (r : List ℕ) (s : State) → reading (32 ∷ r) s ≡ reading r s
   blank r s = goes_on (32 ∷ []) r s s (omega arith) refl (λ column. refl)
 
   -- the text ends after a condition
-  ends : (p : Condition) → reading [] (record { stage = Whole p; before = [] }) ≡ Ok p
+  pub ends : (p : Condition) → reading [] (record { stage = Whole p; before = [] }) ≡ Ok p
   unfolding reading
   ends p = ap (λ (cs : List Cut). read_words layout bytes cs (record { stage = Whole p; before = [] })) cuts_none
 
@@ -58,7 +58,7 @@ module _ (layout : List (List ℕ × Field)) (bytes : ℕ) where
 
   -- ---- comparisons of fields
 
-  not_blank : (column : ℕ) (w : List ℕ) (s : State) → IsWord w → step layout column w s ≡ next layout column w s.stage s.before
+  pub not_blank : (column : ℕ) (w : List ℕ) (s : State) → IsWord w → step layout column w s ≡ next layout column w s.stage s.before
   not_blank column w s word = ap (λ (b : Bool). cond b (Ok s) (next layout column w s.stage s.before)) (no_blank w word.all word.some)
 
   word_wanted : (column : ℕ) (w : List ℕ) (before : List Open) → IsWord w
@@ -81,7 +81,7 @@ module _ (layout : List (List ℕ × Field)) (bytes : ℕ) where
       ∙ subject_field (field_text field) field.sign (shape_text field.size field.order) (decimal field.offset)
       ∙ ap (λ (r : Result Field FaultKind). r >>= λ other. Ok (Compared other)) (field_again layout field small)
 
-  field_step : (field : Field) (before : List Open) → IsField field → (column : ℕ)
+  pub field_step : (field : Field) (before : List Open) → IsField field → (column : ℕ)
       → step layout column (field_text field) (record { stage = Wanted; before = before }) ≡ Ok (record { stage = Compared field; before = before })
   field_step field before small column =
       not_blank column (field_text field) (record { stage = Wanted; before = before }) (field_is_word field small)
@@ -90,6 +90,7 @@ module _ (layout : List (List ℕ × Field)) (bytes : ℕ) where
 
   comparison_step : (field : Field) (comparison : Comparison) (before : List Open) (column : ℕ)
       → step layout column (comparison_text comparison) (record { stage = Compared field; before = before }) ≡ Ok (record { stage = Against field comparison; before = before })
+  unfolding compared
   comparison_step field Equal before column = refl
   comparison_step field NotEqual before column = refl
   comparison_step field Less before column = refl
@@ -421,7 +422,7 @@ module _ (layout : List (List ℕ × Field)) (bytes : ℕ) where
       ∙ ap (subject_in layout name) (cut_name name h)
       ∙ ap (λ (r : Result Field FaultKind). r >>= λ other. Ok (Compared other)) (name_again layout name field h found)
 
-  name_step : (name : List ℕ) (field : Field) → is_field_name name ≡ true → field_named layout name ≡ Some field → (column : ℕ)
+  pub name_step : (name : List ℕ) (field : Field) → is_field_name name ≡ true → field_named layout name ≡ Some field → (column : ℕ)
       → step layout column name at_start ≡ Ok (record { stage = Compared field; before = [] })
   name_step name field h found column =
       not_blank column name at_start (name_is_word name h)
@@ -447,7 +448,7 @@ module _ (layout : List (List ℕ × Field)) (bytes : ℕ) where
       ∙ named_goes name field comparison operand h found fits
 
 -- a text that isn't too long is read
-within : (layout : List (List ℕ × Field)) (text : List ℕ) (p : Condition) → reading layout (length text) text at_start ≡ Ok p → length text ≤ MOST_BYTES → condition_of layout text ≡ Ok p
+pub within : (layout : List (List ℕ × Field)) (text : List ℕ) (p : Condition) → reading layout (length text) text at_start ≡ Ok p → length text ≤ MOST_BYTES → condition_of layout text ≡ Ok p
 unfolding condition_of reading
 within layout text p again few =
     ap (λ (b : Bool). cond b (refused 1 kinds.TooLong) (read_words layout (length text) (cuts text) at_start)) (le-ltb MOST_BYTES (length text) few) ∙ again

@@ -49,7 +49,7 @@ pub record IsWord (w : List ℕ) : Type 0 where
   pub some : 0 < length w
 
 -- a byte of words is no other byte
-not_byte : (b c : ℕ) → is_word_byte b ≡ true → is_word_byte c ≡ false → eqb b c ≡ false
+pub not_byte : (b c : ℕ) → is_word_byte b ≡ true → is_word_byte c ≡ false → eqb b c ≡ false
 not_byte b c h e = false_from_ne_true (eqb b c) (λ t. let same : is_word_byte b ≡ is_word_byte c = ap is_word_byte (eqb-true b c t) in absurd cc)
 
 word_digit : (d : ℕ) → digit_value d < 10 → is_word_byte d ≡ true

@@ -7,16 +7,21 @@ use Rattle.std.specs.Char.{is_ascii_alphanumeric}
 abbrev pub is_word_byte : ℕ → Bool
 is_word_byte byte = is_ascii_alphanumeric byte || (byte == 95 || (byte == 64 || byte == 45))
 
--- two bytes that are one word: `&&`, `||`, `==`, `!=`, `<=` and `>=`
+-- two bytes that are one word: `&&`, `||`, `..`, `==`, `!=`, `<=` and `>=`
 abbrev pub is_pair : ℕ → ℕ → Bool
 is_pair a b =
-    (a == 38 && b == 38) || ((a == 124 && b == 124) || ((a == 61 || (a == 33 || (a == 60 || a == 62))) && b == 61))
+    (a == 38 && b == 38)
+    || ((a == 124 && b == 124) || ((a == 46 && b == 46) || ((a == 61 || (a == 33 || (a == 60 || a == 62))) && b == 61)))
 
--- how many bytes the first word of a text has: all that names are made of, one of the pairs, or one byte alone, as a blank
+-- how many bytes of these three are a word, where names aren't made of the first: `..=`, one of the pairs, or one byte, as a blank
+abbrev pub symbol_width : ℕ → ℕ → ℕ → ℕ
+symbol_width a b c = if is_pair a b then (if a == 46 && c == 61 then 3 else 2) else 1
+
+-- how many bytes the first word of a text has: all that names are made of, or those of a symbol
 abbrev pub width : List ℕ → ℕ
 width text =
     if is_word_byte (slice_index text 0) then position_or_len (λ byte. not (is_word_byte byte)) text
-    else (if is_pair (slice_index text 0) (slice_index text 1) then 2 else 1)
+    else symbol_width (slice_index text 0) (slice_index text 1) (slice_index text 2)
 
 -- a word, and how many bytes the text has from its first on
 pub record Cut : Type 0 where

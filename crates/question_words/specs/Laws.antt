@@ -1,12 +1,15 @@
 -- The laws of questions in words.
-use Rattle.std.specs.Prelude.{ℕ, ◌≡◌, ◌<◌, ◌≤◌, ◌^◌, true, List, ◌++◌, length, Some, Ok, codes}
+use Rattle.std.specs.Prelude.{ℕ, ◌≡◌, ◌<◌, ◌≤◌, ◌^◌, ◌⊎◌, true, List, [], ◌∷◌, ◌++◌, length, Some, Ok, codes}
+use Rattle.std.specs.List.{AllByRecursion}
 use Rattle.hex.specs.Hex.{IsBytes}
 use Rattle.record_questions.specs.declared.question.Comparison.{Comparison}
+use Rattle.record_questions.specs.declared.question.Comparison.TheVariants.{Equal, Less, LessOrEqual, GreaterOrEqual}
 use Rattle.record_questions.specs.declared.question.Field.{Field}
 use Rattle.record_questions.specs.declared.question.Operand.{Operand}
 use Rattle.record_questions.specs.declared.question.Operand.TheVariants as operands
 use Rattle.question_words.specs.declared.reading.TheConstants.{MOST_BYTES}
 use Rattle.question_words.specs.Condition.{Condition, Compare, Bytes, And, Or, Not}
+use Rattle.question_words.specs.Field.{field_text}
 use Rattle.question_words.specs.Layout.{field_named}
 use Rattle.question_words.specs.LayoutText.{is_field_name}
 use Rattle.question_words.specs.Operand.{comparison_text, is_of_type, is_same_sign, operand_word}
@@ -31,9 +34,13 @@ IsCondition (And p q) = IsCondition p × IsCondition q
 IsCondition (Or p q) = IsCondition p × IsCondition q
 IsCondition (Not p) = IsCondition p
 
--- a text is read as this condition, whatever the layout, if it isn't longer than a question can be
+-- a text is read as this condition by a layout, if it isn't longer than a question can be
+abbrev pub ReadsBy : List (List ℕ × Field) → List ℕ → Condition → Type 0
+ReadsBy layout text p = length text ≤ MOST_BYTES → condition_of layout text ≡ Ok p
+
+-- the same, whatever the layout
 abbrev pub ReadsAs : List ℕ → Condition → Type 0
-ReadsAs text p = (layout : List (List ℕ × Field)) → length text ≤ MOST_BYTES → condition_of layout text ≡ Ok p
+ReadsAs text p = (layout : List (List ℕ × Field)) → ReadsBy layout text p
 
 -- what is printed of a condition is read as the same
 abbrev pub WordsReadBack : Type 0
@@ -71,8 +78,47 @@ abbrev pub NamesRead : Type 0
 NamesRead =
     (layout : List (List ℕ × Field)) (name : List ℕ) (field : Field) (comparison : Comparison) (operand : Operand)
     → is_field_name name ≡ true → field_named layout name ≡ Some field → IsOperand field operand
-    → length (named_text name comparison operand) ≤ MOST_BYTES
-    → condition_of layout (named_text name comparison operand) ≡ Ok (Compare field comparison operand)
+    → ReadsBy layout (named_text name comparison operand) (Compare field comparison operand)
+
+-- a word says a field: it is its type and offset, or its name in the layout
+abbrev pub Says : List (List ℕ × Field) → List ℕ → Field → Type 0
+Says layout word field =
+    (IsField field × (word ≡ field_text field)) ⊎ ((is_field_name word ≡ true) × (field_named layout word ≡ Some field))
+
+-- a field is in a range
+abbrev pub range_text : List ℕ → Operand → List ℕ → Operand → List ℕ
+range_text word least dots bound = word ++ (codes " in " ++ (operand_word least ++ (dots ++ operand_word bound)))
+
+-- a range has its first bound, and by `..=` its second
+abbrev pub RangesRead : Type 0
+RangesRead =
+    (layout : List (List ℕ × Field)) (word : List ℕ) (field : Field) (least bound : Operand)
+    → Says layout word field → IsOperand field least → IsOperand field bound
+    → ReadsBy layout (range_text word least (codes "..") bound)
+    (And (Compare field GreaterOrEqual least) (Compare field Less bound))
+    × ReadsBy layout (range_text word least (codes "..=") bound)
+    (And (Compare field GreaterOrEqual least) (Compare field LessOrEqual bound))
+
+-- what is after the first element of a set
+abbrev pub rest_text : List Operand → List ℕ
+rest_text [] = codes "}"
+rest_text (element ∷ rest) = codes ", " ++ (operand_word element ++ rest_text rest)
+
+-- a field is in a set
+abbrev pub set_text : List ℕ → Operand → List Operand → List ℕ
+set_text word first rest = word ++ (codes " in {" ++ (operand_word first ++ rest_text rest))
+
+-- it is one of some operands, to each of which it is compared in turn
+abbrev pub either_of : Field → Condition → List Operand → Condition
+either_of field p [] = p
+either_of field p (element ∷ rest) = either_of field (Or p (Compare field Equal element)) rest
+
+-- of a set the field equals one of the elements
+abbrev pub SetsRead : Type 0
+SetsRead =
+    (layout : List (List ℕ × Field)) (word : List ℕ) (field : Field) (first : Operand) (rest : List Operand)
+    → Says layout word field → IsOperand field first → AllByRecursion (IsOperand field) rest
+    → ReadsBy layout (set_text word first rest) (either_of field (Compare field Equal first) rest)
 
 -- a layout whose fields' offsets fit, as each does that code can make
 abbrev pub IsLayout : List (List ℕ × Field) → Type 0

@@ -15,6 +15,7 @@ use Rattle.question_words.specs.Cutting.{Cut, cuts, is_word_byte}
 use Rattle.question_words.specs.Fault.{at, refused}
 use Rattle.question_words.specs.Field.{field_of, offset_of}
 use Rattle.question_words.specs.Operand.{begins_number, comparison_of, operand_of}
+use Rattle.question_words.specs.Within.{Within, Begun, From, Until, First, Listed, More, bound_of, more_condition, one_condition, range_condition}
 
 -- what is open before the place that is read, the nearest first: a `!`, a parenthesis, or the first of two conditions
 pub data Open : Type 0 where
@@ -24,13 +25,14 @@ pub data Open : Type 0 where
   OpenOr : (first : Condition) → Open
 
 -- what the place begins with: a condition is wanted; after a field a comparison; after that an operand; the same of bytes, which are
--- to be there or not; or a condition is whole, but for what is open
+-- to be there or not; after a field and `in` a part of a range or a set; or a condition is whole, but for what is open
 pub data Stage : Type 0 where
   Wanted : Stage
   Compared : (field : Field) → Stage
   Against : (field : Field) (comparison : Comparison) → Stage
   BytesCompared : (offset : ℕ) → Stage
   AgainstBytes : (offset : ℕ) (there : Bool) → Stage
+  In : (field : Field) (part : Within) → Stage
   Whole : (condition : Condition) → Stage
 
 -- what is read so far
@@ -113,17 +115,55 @@ joined column word p before =
     then (let whole = with_or before p in Ok (record { stage = Wanted; before = OpenOr whole.0 ∷ whole.1 }))
     else (if bytes_eq word (codes ")") then closed column (with_or before p) else refused column kinds.Joint))
 
+-- more is wanted of a range or a set
+abbrev pub in_state : Field → Within → List Open → State
+in_state field part before = record { stage = In field part; before = before }
+
+-- after an element of a set a `,` or a `}`
+unfoldable pub listed : ℕ → List ℕ → Field → Condition → List Open → Result State WordFault
+listed column word field p before =
+    if bytes_eq word (codes ",") then Ok (in_state field (More p) before)
+    else (if bytes_eq word (codes "}") then Ok (settled before p) else refused column kinds.Element)
+
+-- the first bound of a range
+unfoldable pub bounded : List (List ℕ × Field) → ℕ → List ℕ → Field → List Open → Result State WordFault
+bounded layout column word field before = at column (operand_of layout field word) >>= λ least. Ok (in_state field (From least) before)
+
+-- after `in` a `{`, or the first bound of a range
+unfoldable pub begun : List (List ℕ × Field) → ℕ → List ℕ → Field → List Open → Result State WordFault
+begun layout column word field before =
+    if bytes_eq word (codes "{") then Ok (in_state field First before) else bounded layout column word field before
+
+-- what a word makes of a range or a set
+unfoldable pub next_within : List (List ℕ × Field) → ℕ → List ℕ → Field → Within → List Open → Result State WordFault
+next_within layout column word field Begun before = begun layout column word field before
+next_within layout column word field (From least) before =
+    at column (bound_of word) >>= λ comparison. Ok (in_state field (Until least comparison) before)
+next_within layout column word field (Until least comparison) before =
+    at column (operand_of layout field word) >>= λ bound. Ok (settled before (range_condition field least comparison bound))
+next_within layout column word field First before =
+    at column (operand_of layout field word) >>= λ element. Ok (in_state field (Listed (one_condition field element)) before)
+next_within layout column word field (Listed p) before = listed column word field p before
+next_within layout column word field (More p) before =
+    at column (operand_of layout field word) >>= λ element. Ok (in_state field (Listed (more_condition p field element)) before)
+
+-- after a field a comparison, or `in`
+unfoldable pub compared : ℕ → List ℕ → Field → List Open → Result State WordFault
+compared column word field before =
+    if bytes_eq word (codes "in") then Ok (in_state field Begun before)
+    else (at column (comparison_of word) >>= λ comparison. Ok (record { stage = Against field comparison; before = before }))
+
 -- what a word that is no blank makes of what is read so far
 abbrev pub next : List (List ℕ × Field) → ℕ → List ℕ → Stage → List Open → Result State WordFault
 next layout column word Wanted before = wanted layout column word before
-next layout column word (Compared field) before =
-    at column (comparison_of word) >>= λ comparison. Ok (record { stage = Against field comparison; before = before })
+next layout column word (Compared field) before = compared column word field before
 next layout column word (Against field comparison) before =
     at column (operand_of layout field word) >>= λ operand. Ok (settled before (Compare field comparison operand))
 next layout column word (BytesCompared offset) before =
     at column (is_there word) >>= λ there. Ok (record { stage = AgainstBytes offset there; before = before })
 next layout column word (AgainstBytes offset there) before =
     at column (bytes_of word) >>= λ bytes. Ok (settled before (bytes_condition offset there bytes))
+next layout column word (In field part) before = next_within layout column word field part before
 next layout column word (Whole p) before = joined column word p before
 
 -- a space, a tab, a line's end
@@ -135,6 +175,15 @@ is_blank word =
 abbrev pub step : List (List ℕ × Field) → ℕ → List ℕ → State → Result State WordFault
 step layout column word state = if is_blank word then Ok state else next layout column word state.stage state.before
 
+-- what lacks of a range or a set
+abbrev pub wanted_within : Within → FaultKind
+wanted_within Begun = kinds.Operand
+wanted_within (From least) = kinds.Bound
+wanted_within (Until least comparison) = kinds.Operand
+wanted_within First = kinds.Operand
+wanted_within (Listed p) = kinds.Element
+wanted_within (More p) = kinds.Operand
+
 -- the text ends
 abbrev pub finished : ℕ → Stage → List Open → Result Condition WordFault
 finished column Wanted before = refused column kinds.Condition
@@ -142,6 +191,7 @@ finished column (Compared field) before = refused column kinds.Comparison
 finished column (Against field comparison) before = refused column kinds.Operand
 finished column (BytesCompared offset) before = refused column kinds.BytesComparison
 finished column (AgainstBytes offset there) before = refused column kinds.Bytes
+finished column (In field part) before = refused column (wanted_within part)
 finished column (Whole p) before = all_of column (with_or before p)
 
 -- what these words of a text of so many bytes make of what is read so far

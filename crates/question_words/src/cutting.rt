@@ -1,8 +1,8 @@
 //! How a text is cut into words.
 
-ghost use Rattle.std.specs.Prelude.{◌≡◌, ◌<◌, ◌≤◌, true, not, length, take, drop, position, slice_index, IfSome};
+ghost use Rattle.std.specs.Prelude.{◌≡◌, ◌<◌, ◌≤◌, ◌==◌, ◌&&◌, true, not, length, take, drop, position, slice_index, IfSome};
 ghost use Rattle.std.specs.List.{position_or_len};
-ghost use Rattle.question_words.specs.Cutting.{is_word_byte, is_pair, width};
+ghost use Rattle.question_words.specs.Cutting.{is_word_byte, is_pair, symbol_width, width};
 
 /// The first word of a text, and the text after it. A blank is a word too.
 pub(crate) fn first_word(text: &[u8]) -> (&[u8], &[u8])
@@ -23,10 +23,24 @@ fn word_bytes(text: &[u8]) -> usize
 {
     if is_in_word(text[0]) {
         name_bytes(text)
-    } else if begins_with_pair(text) {
-        2
     } else {
+        symbol_bytes(text)
+    }
+}
+
+/// How many bytes a word has that begins with no byte of names.
+fn symbol_bytes(text: &[u8]) -> usize
+    requires { 0 < length text.now }
+    ensures value { result ≡ symbol_width (slice_index text.now 0) (slice_index text.now 1) (slice_index text.now 2) }
+    ensures some { 0 < result }
+    ensures within { result ≤ length text.now }
+{
+    if !begins_with_pair(text) {
         1
+    } else if begins_with_dot_before_equals(text) {
+        3
+    } else {
+        2
     }
 }
 
@@ -57,11 +71,19 @@ fn begins_with_pair(text: &[u8]) -> bool
         text,
         [b'&', b'&', ..]
             | [b'|', b'|', ..]
+            | [b'.', b'.', ..]
             | [b'=', b'=', ..]
             | [b'!', b'=', ..]
             | [b'<', b'=', ..]
             | [b'>', b'=', ..]
     )
+}
+
+/// Is a dot first, and `=` third, as in `..=`?
+fn begins_with_dot_before_equals(text: &[u8]) -> bool
+    ensures { result ≡ (slice_index text.now 0 == 46 && slice_index text.now 2 == 61) }
+{
+    matches!(text, [b'.', _, b'=', ..])
 }
 
 /// Is it a byte of names, numbers and fields?

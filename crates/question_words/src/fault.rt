@@ -15,7 +15,7 @@ pub enum FaultKind {
     #[error("a field, `bytes@` and an offset, `!` or `(` is expected")]
     Condition,
     /// A number or `arg` is on the left of a comparison.
-    #[error("a comparison begins with a field; a number or `arg` comes after ==, !=, <, <=, > or >=")]
+    #[error("a comparison begins with a field; a number or `arg` comes after ==, !=, <, <=, >, >= or in")]
     Left,
     /// The layout lacks the name.
     #[error("the layout has no field of this name; without a name a field is written as u32@8")]
@@ -27,14 +27,20 @@ pub enum FaultKind {
     #[error("after the @ an offset is expected: a decimal number from 0 to 65535")]
     Offset,
     /// After a field there is no comparison.
-    #[error("a comparison is expected: ==, !=, <, <=, > or >=")]
+    #[error("a comparison is expected: ==, !=, <, <=, >, >= or in")]
     Comparison,
     /// After `bytes@` and an offset there is neither `==` nor `!=`.
     #[error("bytes are compared by == or !=")]
     BytesComparison,
     /// No operand begins so.
-    #[error("a number, `arg` or a field is expected")]
+    #[error("a number, `arg` or a field is expected, or after `in` an opening brace")]
     Operand,
+    /// After the first bound of a range there is neither `..` nor `..=`.
+    #[error("after the first bound of a range `..` is expected, which leaves the second out, or `..=`, which has it")]
+    Bound,
+    /// After an element of a set there is neither a comma nor a brace.
+    #[error("after an element of a set a comma or a closing brace is expected")]
+    Element,
     /// A word that begins as a number isn't one.
     #[error("a number is decimal, with - before it where it is below zero, or hexadecimal after 0x, without -")]
     Number,

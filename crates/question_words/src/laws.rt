@@ -1,6 +1,6 @@
 //! The laws of questions in words. The functions do nothing: what they ensure is the laws.
 
-ghost use Rattle.question_words.specs.Laws.{NamesRead, OtherBytesRead, ReadIsCondition, WordsHavePrecedence, WordsReadBack};
+ghost use Rattle.question_words.specs.Laws.{NamesRead, OtherBytesRead, RangesRead, ReadIsCondition, SetsRead, WordsHavePrecedence, WordsReadBack};
 
 /// What is printed of a condition is read as the same, whatever the layout, where its numbers fit their fields, its bytes are one or
 /// more, and its text has at most `MOST_BYTES` bytes.
@@ -28,4 +28,14 @@ pub fn names_are_read()
 /// that what is printed of it is read back.
 pub fn read_is_condition()
     ensures { ReadIsCondition }
+{}
+
+/// A field that is in a range is the first bound or more, and less than the second or, by `..=`, the second or less.
+pub fn ranges_are_read()
+    ensures { RangesRead }
+{}
+
+/// A field that is in a set is one of its elements: the comparisons of the elements are joined by `||`, in order.
+pub fn sets_are_read()
+    ensures { SetsRead }
 {}

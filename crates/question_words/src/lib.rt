@@ -9,6 +9,8 @@
 //! - A layout has a name and a field on each line, as `price i32@12`; what is after a `;` is a comment.
 //! - A field is compared by `==`, `!=`, `<`, `<=`, `>` or `>=` with a number of its type, with
 //!   `arg`, the argument of the run, or with a field that is signed as it is.
+//! - `price in 100..200` is `price >= 100 && price < 200`, and `price in 100..=200` is `price >= 100 && price <= 200`.
+//!   `region in {1, 2}` is `region == 1 || region == 2`. What is between is of the same kinds as on the right of a comparison.
 //! - `bytes@8 == 0x6162` asks for the bytes 61h and 62h from offset 8 on; by `!=` it asks for others.
 //! - `!` takes what is next to it, `&&` is before `||`, and parentheses are before both.
 //! - Numbers are decimal, with a `-` in front where they are below zero, or hexadecimal after `0x`, without a `-`.
@@ -26,6 +28,7 @@ mod printing;
 mod reading;
 mod stack;
 mod stage;
+mod within;
 
 pub use fault::{FaultKind, ReadFault, WordFault};
 pub use layout::{Layout, NamedField};

@@ -9,7 +9,7 @@ ghost use Rattle.question_words.specs.Condition.{said};
 ghost use Rattle.question_words.specs.Fault.{at, fault_of};
 ghost use Rattle.question_words.specs.Layout.{entries};
 ghost use Rattle.question_words.specs.Operand.{begins_number};
-ghost use Rattle.question_words.specs.Reading.{all_of, bytes_condition, bytes_of, bytes_written, closed as closed_at, finished, is_blank, is_there, joined as joined_at, next as next_of, settled, step as step_of, subject_in, subject_of, wanted as wanted_at, with_or as with_or_of, Wanted as AtWanted};
+ghost use Rattle.question_words.specs.Reading.{all_of, bytes_condition, bytes_of, bytes_written, closed as closed_at, compared as compared_of, finished, is_blank, is_there, joined as joined_at, next as next_of, settled, step as step_of, subject_in, subject_of, wanted as wanted_at, with_or as with_or_of, Wanted as AtWanted};
 ghost use Rattle.question_words.specs.steps.Views.{open_view, opens, reading_view, stage_view};
 
 use crate::fault::{FaultKind, ReadFault, fault, located};
@@ -17,6 +17,7 @@ use crate::field::{field, offset};
 use crate::layout::Layout;
 use crate::operand::{begins_word, comparison, is_number, operand};
 use crate::stack::{Open, put, take};
+use crate::within::{Within, lacking, next_within};
 use hex::FromHexError;
 use record_questions::{Comparison, Field, Predicate};
 use std::alloc::{AllocError, Global};
@@ -35,6 +36,8 @@ pub(crate) enum Stage {
     BytesCompared(u16),
     /// The bytes are wanted, which are to be there or not.
     AgainstBytes(u16, bool),
+    /// A part of a range or a set is wanted after this field and `in`.
+    In(Field, Within),
     /// A condition is whole, but for what is open.
     Whole(Predicate),
 }
@@ -83,11 +86,7 @@ fn next(
 {
     match stage {
         Stage::Wanted => wanted(layout, column, word, before),
-        Stage::Compared(field) => {
-            let comparison = located(column, comparison(word))?;
-            let stage = Stage::Against(field, comparison);
-            Ok(Reading { stage, before })
-        }
+        Stage::Compared(field) => compared(column, word, field, before),
         Stage::Against(field, comparison) => {
             let operand = located(column, operand(layout, field, word))?;
             let condition = Predicate::Compare {
@@ -107,6 +106,7 @@ fn next(
             let condition = bytes_predicate(alloc, offset, there, bytes)?;
             Ok(settle(alloc, before, condition)?)
         }
+        Stage::In(field, part) => next_within(alloc, layout, column, word, field, part, before),
         Stage::Whole(condition) => joined(alloc, column, word, condition, before),
     }
 }
@@ -172,6 +172,24 @@ fn named(layout: &Layout, word: &[u8]) -> Result<Stage, FaultKind>
         return Ok(Stage::BytesCompared(offset(at)?));
     }
     Ok(Stage::Compared(field(layout, word)?))
+}
+
+/// After a field: a comparison, or `in`.
+#[tactic(auto, unfolding(crate::specs::Reading::compared))]
+fn compared(
+    column: usize,
+    word: &[u8],
+    field: Field,
+    before: Vec<Open>,
+) -> Result<Reading, ReadFault>
+    ensures { Gives fault_of reading_view result (compared_of column word.now field (opens before.items)) }
+{
+    let stage = if matches!(word, b"in") {
+        Stage::In(field, Within::Begun)
+    } else {
+        Stage::Against(field, located(column, comparison(word))?)
+    };
+    Ok(Reading { stage, before })
 }
 
 /// Are bytes to be there, or not?
@@ -267,7 +285,11 @@ fn closed(
 }
 
 /// A condition is whole: a `!` and an `&&` before it take it.
-fn settle(alloc: Global, before: Vec<Open>, condition: Predicate) -> Result<Reading, AllocError>
+pub(crate) fn settle(
+    alloc: Global,
+    before: Vec<Open>,
+    condition: Predicate,
+) -> Result<Reading, AllocError>
     ensures { IfOk result (λ reading. reading_view reading ≡ settled (opens before.items) (said condition)) }
 {
     let mut before = before;
@@ -325,6 +347,7 @@ pub(crate) fn finish(alloc: Global, column: usize, reading: Reading) -> Result<P
         Stage::Against(..) => FaultKind::Operand,
         Stage::BytesCompared(_) => FaultKind::BytesComparison,
         Stage::AgainstBytes(..) => FaultKind::Bytes,
+        Stage::In(_, part) => lacking(part),
     };
     Err(fault(column, kind))
 }
