@@ -41,13 +41,13 @@ ROOTS: List[Key] = [
     ("record_questions/specs/Tallies.antt", "WordsAreTallied"),
     ("record_questions/specs/Tallies.antt", "TalliesAreTold"),
     ("question_words/specs/Condition.antt", "said"),
-    ("question_words/specs/LayoutText.antt", "layout_of"),
     ("question_words/specs/Laws.antt", "WordsReadBack"),
     ("question_words/specs/Laws.antt", "WordsHavePrecedence"),
     ("question_words/specs/Laws.antt", "OtherBytesRead"),
     ("question_words/specs/Laws.antt", "NamesRead"),
     ("question_words/specs/Laws.antt", "RangesRead"),
     ("question_words/specs/Laws.antt", "SetsRead"),
+    ("question_words/specs/Laws.antt", "QuotesRead"),
     ("question_words/specs/Laws.antt", "ReadIsCondition"),
 ]
 
@@ -269,7 +269,7 @@ WORDS = Booklet(
         ),
         Section("How a condition is read", r"question_words/specs/(Condition|Within|Reading)\.|question_words/src/reading\."),
         Section("The text of a condition", r"question_words/specs/Printing\."),
-        Section("Layouts", r"question_words/(specs|src)/(LayoutText|layout_text)\."),
+        Section("Names of fields", r"question_words/specs/LayoutText\."),
         Section("What is proved of them", r"question_words/specs/Laws\."),
     ],
 )

@@ -1,5 +1,5 @@
 -- A text as its first word and the words after that.
-use Rattle.std.proofs.Common.{◌≡◌, ℕ, zero, suc, ◌-◌, ◌<◌, Bool, true, false, not, cond, ltb, List, [], ◌∷◌, ◌++◌, length, get_or, take, drop, Some, None, refl, sym, ap, ◌∙◌, arith}
+use Rattle.std.proofs.Common.{◌≡◌, ℕ, zero, suc, ◌-◌, ◌<◌, Bool, true, false, not, cond, eqb, ltb, List, [], ◌∷◌, ◌++◌, length, get_or, take, drop, Some, None, refl, sym, ap, ◌∙◌, arith}
 use Rattle.std.specs.List.{list_all, position, position_or_len}
 use Rattle.std.specs.Option.{unwrap_or}
 use Rattle.std.proofs.Math.Seq.{get_or-append_seam}
@@ -7,7 +7,7 @@ use Rattle.std.proofs.Math.ListN.{get_or-append}
 use Rattle.std.proofs.lemmas.Bool.{and_parts, ltb-false}
 use Rattle.std.proofs.lemmas.List.{take_at, drop_at, length-append}
 use Rattle.std.proofs.lemmas.List.Sums.{AllPass-from_list_all, position_or_len_is, prefix_len-le-length}
-use Rattle.question_words.specs.Cutting.{Cut, cuts, cuts_after, is_word_byte, symbol_width, width}
+use Rattle.question_words.specs.Cutting.{Cut, cuts, cuts_after, is_word_byte, quoted_width, symbol_width, width}
 
 cuts_skip : (k : ℕ) (t : List ℕ) → cuts_after k t ≡ cuts_after 0 (drop k t)
 cuts_skip zero [] = refl
@@ -57,7 +57,7 @@ word_width [] r all some end = absurd (omega arith)
 word_width (b ∷ bs) r all some end =
     let w = b ∷ bs in
     let first : is_word_byte b ≡ true = (and_parts (is_word_byte b) (list_all is_word_byte bs) all).0 in
-    ap (λ (named : Bool). cond named (position_or_len (λ byte. not (is_word_byte byte)) (w ++ r)) (symbol_width b (get_or (bs ++ r) 0 0) (get_or (bs ++ r) 1 0))) first
+    ap (λ (named : Bool). cond named (position_or_len (λ byte. not (is_word_byte byte)) (w ++ r)) (cond (eqb b 34) (quoted_width (w ++ r)) (symbol_width b (get_or (bs ++ r) 0 0) (get_or (bs ++ r) 1 0)))) first
     ∙ position_or_len_is (λ byte. not (is_word_byte byte)) (w ++ r) (length w) 0 (omega (arith, length-append w r))
     (λ k inside. ap (λ (byte : ℕ). not (is_word_byte byte)) (get_or-append w r 0 k inside) ∙ not_of _ (AllPass-from_list_all is_word_byte w all k 0 inside))
     (boundary w r end)

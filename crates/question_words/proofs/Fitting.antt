@@ -1,6 +1,7 @@
 -- What is read of a text is a condition whose numbers fit their fields.
-use Rattle.std.proofs.Common.{◌≡◌, ℕ, ℤ, zero, suc, ◌+◌, ◌-◌, ◌<◌, ◌^◌, Bool, true, false, cond, eqb, ltb, ◌&&◌, ◌||◌, List, [], ◌∷◌, length, get_or, drop, Option, Some, None, Result, Ok, Err, IfOk, ok_or, bytes_eq, refl, subst, codes, arith}
+use Rattle.std.proofs.Common.{◌≡◌, ℕ, ℤ, zero, suc, ◌+◌, ◌-◌, ◌<◌, ◌^◌, Bool, true, false, cond, eqb, ltb, ◌&&◌, ◌||◌, List, [], ◌∷◌, length, get_or, take, drop, Option, Some, None, Result, Ok, Err, IfOk, ok_or, bytes_eq, refl, subst, codes, arith}
 use Rattle.std.specs.Prelude.{⊤}
+use Rattle.std.specs.List.{AllByRecursion, after_first, position_or_len}
 use Rattle.std.proofs.lemmas.Bool.{ltb-true}
 use Rattle.hex.specs.Hex.{IsBytes, decode_of}
 use Rattle.hex.proofs.HexLemmas.{decode_of-ok}
@@ -15,14 +16,14 @@ use Rattle.question_words.specs.declared.fault.FaultKind.{FaultKind}
 use Rattle.question_words.specs.declared.fault.FaultKind.TheVariants as kinds
 use Rattle.question_words.specs.declared.reading.TheConstants.{MOST_BYTES}
 use Rattle.question_words.specs.Condition.{Condition, Compare, Bytes, And, Or, Not}
-use Rattle.question_words.specs.Cutting.{Cut, cuts, is_word_byte}
+use Rattle.question_words.specs.Cutting.{Cut, cuts, cuts_after, is_word_byte, width}
 use Rattle.question_words.specs.Fault.{at, refused}
 use Rattle.question_words.specs.Field.{field_in, field_of, offset_in, offset_of, shape_of, sign_of, typed_of}
 use Rattle.question_words.specs.Laws.{IsCondition, IsField, IsLayout, IsOperand, ReadIsCondition}
 use Rattle.question_words.specs.Layout.{field_named}
 use Rattle.question_words.specs.Number.{literal_of}
 use Rattle.question_words.specs.Operand.{begins_number, comparison_of, field_for, is_of_type, is_same_sign, number_for, operand_of}
-use Rattle.question_words.specs.Reading.{Against, AgainstBytes, BytesCompared, Compared, In, Open, OpenAnd, OpenNot, OpenOr, OpenParenthesis, Stage, State, Wanted, Whole, all_of, at_start, begun, bounded, bytes_condition, bytes_of, bytes_written, closed, compared, condition_of, decoded, finished, in_state, is_blank, is_there, joined, listed, next, next_within, read_words, settled, step, subject_in, subject_of, wanted, with_or}
+use Rattle.question_words.specs.Reading.{Against, AgainstBytes, BytesCompared, Compared, In, Open, OpenAnd, OpenNot, OpenOr, OpenParenthesis, Stage, State, Wanted, Whole, all_of, at_start, begun, bounded, bytes_before_quote, bytes_condition, bytes_of, bytes_written, closed, compared, condition_of, decoded, finished, in_state, is_blank, is_there, joined, listed, next, next_within, read_words, settled, step, subject_in, subject_of, wanted, with_or}
 use Rattle.question_words.specs.Within.{Begun, First, From, Listed, More, Until, Within, bound_of, more_condition, one_condition, range_condition}
 
 -- ---- one reading after another
@@ -82,8 +83,41 @@ written_fits digits =
     chosen AreBytes (eqb (length digits) 0) (Err kinds.Bytes) (decoded (decode_of digits)) (λ e. tt)
     (λ e. decoded_fits (decode_of digits) (λ bytes h. let ok = decode_of-ok digits bytes h in let some = not_none (length digits) e in (ok.3, omega (arith, ok.2, some))))
 
-bytes_fit : (word : List ℕ) → IfOk (bytes_of word) AreBytes
-bytes_fit word = chosen AreBytes (eqb (get_or word 0 0) 48 && eqb (get_or word 1 0) 120) (bytes_written (drop 2 word)) (Err kinds.Bytes) (λ e. written_fits (drop 2 word)) (λ e. tt)
+-- bytes stay bytes
+rest_bytes : (b : ℕ) (bs : List ℕ) → IsBytes (b ∷ bs) → IsBytes bs
+rest_bytes b bs small i = small (suc i)
+
+no_bytes : IsBytes []
+no_bytes i = omega arith
+
+more_bytes : (b : ℕ) (bs : List ℕ) → b < 256 → IsBytes bs → IsBytes (b ∷ bs)
+more_bytes b bs first small zero = first
+more_bytes b bs first small (suc i) = small i
+
+bytes_taken : (n : ℕ) (bs : List ℕ) → IsBytes bs → IsBytes (take n bs)
+bytes_taken zero [] small = no_bytes
+bytes_taken zero (b ∷ bs) small = no_bytes
+bytes_taken (suc n) [] small = no_bytes
+bytes_taken (suc n) (b ∷ bs) small = more_bytes b (take n bs) (small 0) (bytes_taken n bs (rest_bytes b bs small))
+
+bytes_inside : (word : List ℕ) → IsBytes word → IsBytes (drop 1 word)
+bytes_inside [] small = small
+bytes_inside (b ∷ bs) small = rest_bytes b bs small
+
+quoted_fits : (n : ℕ) (text rest : List ℕ) (b : Bool) → IsBytes text → IfOk (bytes_before_quote (cond b (Some (take n text, rest)) None)) AreBytes
+quoted_fits n text rest false small = tt
+quoted_fits n text rest true small =
+    chosen AreBytes (eqb (length (take n text)) 0) (Err kinds.Bytes) (Ok (take n text)) (λ e. tt)
+    (λ e. (bytes_taken n text small, not_none (length (take n text)) e))
+
+bytes_fit : (word : List ℕ) → IsBytes word → IfOk (bytes_of word) AreBytes
+bytes_fit word small =
+    let inside = drop 1 word in
+    let place = position_or_len (λ b. eqb b 34) inside in
+    let other = cond (eqb (get_or word 0 0) 48 && eqb (get_or word 1 0) 120) (bytes_written (drop 2 word)) (Err kinds.Bytes) in
+    chosen AreBytes (eqb (get_or word 0 0) 34) (bytes_before_quote (cut_at 34 inside)) other
+    (λ e. quoted_fits place inside (after_first (λ b. eqb b 34) inside) (ltb place (length inside)) (bytes_inside word small))
+    (λ e. chosen AreBytes (eqb (get_or word 0 0) 48 && eqb (get_or word 1 0) 120) (bytes_written (drop 2 word)) (Err kinds.Bytes) (λ f. written_fits (drop 2 word)) (λ f. tt))
 
 bytes_condition_fits : (offset : ℕ) (there : Bool) (bytes : List ℕ) → IsCondition (Bytes offset bytes) → IsCondition (bytes_condition offset there bytes)
 bytes_condition_fits offset true bytes h = h
@@ -186,6 +220,21 @@ finished_fits column (AgainstBytes offset there) before s h = tt
 finished_fits column (In field part) before s h = tt
 finished_fits column (Whole p) before s h = all_fits column (with_or before p).0 (with_or before p).1 (or_condition before p h s)
 
+-- ---- words
+
+abbrev IsCut : Cut → Type 0
+IsCut c = IsBytes c.word
+
+cuts_after_fit : (skip : ℕ) (text : List ℕ) → IsBytes text → AllByRecursion IsCut (cuts_after skip text)
+cuts_after_fit zero [] small = tt
+cuts_after_fit (suc skip) [] small = tt
+cuts_after_fit zero (b ∷ bs) small = (bytes_taken (width (b ∷ bs)) (b ∷ bs) small, cuts_after_fit (width (b ∷ bs) - 1) bs (rest_bytes b bs small))
+cuts_after_fit (suc skip) (b ∷ bs) small = cuts_after_fit skip bs (rest_bytes b bs small)
+
+cuts_fit : (text : List ℕ) → IsBytes text → AllByRecursion IsCut (cuts text)
+unfolding cuts
+cuts_fit text small = cuts_after_fit 0 text small
+
 module _ (layout : List (List ℕ × Field)) (fits : IsLayout layout) where
   field_in_fits : (word : List ℕ) (o : Option (List ℕ × List ℕ)) → IfOk (field_in layout word o) IsField
   field_in_fits word (Some parts) = typed_fits parts.0 parts.1
@@ -253,33 +302,33 @@ module _ (layout : List (List ℕ × Field)) (fits : IsLayout layout) where
   within_fits column word field (More c) before s p h =
       operand_makes column word field (λ o. in_state field (Listed (more_condition c field o)) before) (λ o fits. ((s, (p, (s, fits))), h))
 
-  next_fits : (column : ℕ) (word : List ℕ) (stage : Stage) (before : List Open) → IsStage stage → AreOpen before → IfOk (next layout column word stage before) IsState
-  next_fits column word Wanted before s h = wanted_fits column word before h
-  next_fits column word (Compared field) before s h = compared_step_fits column word field before s h
-  next_fits column word (Against field comparison) before s h =
+  next_fits : (column : ℕ) (word : List ℕ) (stage : Stage) (before : List Open) → IsBytes word → IsStage stage → AreOpen before → IfOk (next layout column word stage before) IsState
+  next_fits column word Wanted before b s h = wanted_fits column word before h
+  next_fits column word (Compared field) before b s h = compared_step_fits column word field before s h
+  next_fits column word (Against field comparison) before b s h =
       chained (IsOperand field) IsState (at column (operand_of layout field word)) (λ operand. Ok (settled before (Compare field comparison operand)))
       (placed (IsOperand field) column (operand_of layout field word) (operand_fits field word)) (λ operand o. settled_fits before (Compare field comparison operand) h (s, o))
-  next_fits column word (BytesCompared offset) before s h =
+  next_fits column word (BytesCompared offset) before b s h =
       after_any IsState (at column (is_there word)) (λ there. Ok (record { stage = AgainstBytes offset there; before = before })) (λ there. (s, h))
-  next_fits column word (AgainstBytes offset there) before s h =
+  next_fits column word (AgainstBytes offset there) before b s h =
       chained AreBytes IsState (at column (bytes_of word)) (λ bytes. Ok (settled before (bytes_condition offset there bytes)))
-      (placed AreBytes column (bytes_of word) (bytes_fit word)) (λ bytes b. settled_fits before (bytes_condition offset there bytes) h (bytes_condition_fits offset there bytes (s, b)))
-  next_fits column word (In field part) before s h = within_fits column word field part before s.0 s.1 h
-  next_fits column word (Whole p) before s h = joined_fits column word p before h s
+      (placed AreBytes column (bytes_of word) (bytes_fit word b)) (λ bytes are. settled_fits before (bytes_condition offset there bytes) h (bytes_condition_fits offset there bytes (s, are)))
+  next_fits column word (In field part) before b s h = within_fits column word field part before s.0 s.1 h
+  next_fits column word (Whole p) before b s h = joined_fits column word p before h s
 
-  step_fits : (column : ℕ) (word : List ℕ) (s : State) → IsState s → IfOk (step layout column word s) IsState
-  step_fits column word s h = chosen IsState (is_blank word) (Ok s) (next layout column word s.stage s.before) (λ e. h) (λ e. next_fits column word s.stage s.before h.0 h.1)
+  step_fits : (column : ℕ) (word : List ℕ) (s : State) → IsBytes word → IsState s → IfOk (step layout column word s) IsState
+  step_fits column word s b h = chosen IsState (is_blank word) (Ok s) (next layout column word s.stage s.before) (λ e. h) (λ e. next_fits column word s.stage s.before b h.0 h.1)
 
-  words_fit : (bytes : ℕ) (cs : List Cut) (s : State) → IsState s → IfOk (read_words layout bytes cs s) IsCondition
-  words_fit bytes [] s h = finished_fits (bytes + 1) s.stage s.before h.0 h.1
-  words_fit bytes (c ∷ cs) s h =
-      chained IsState IsCondition (step layout (bytes - c.left + 1) c.word s) (λ after. read_words layout bytes cs after) (step_fits (bytes - c.left + 1) c.word s h) (λ after a. words_fit bytes cs after a)
+  words_fit : (bytes : ℕ) (cs : List Cut) (s : State) → AllByRecursion IsCut cs → IsState s → IfOk (read_words layout bytes cs s) IsCondition
+  words_fit bytes [] s b h = finished_fits (bytes + 1) s.stage s.before h.0 h.1
+  words_fit bytes (c ∷ cs) s b h =
+      chained IsState IsCondition (step layout (bytes - c.left + 1) c.word s) (λ after. read_words layout bytes cs after) (step_fits (bytes - c.left + 1) c.word s b.0 h) (λ after a. words_fit bytes cs after b.1 a)
 
-  text_fits : (text : List ℕ) → IfOk (condition_of layout text) IsCondition
+  text_fits : (text : List ℕ) → IsBytes text → IfOk (condition_of layout text) IsCondition
   unfolding condition_of
-  text_fits text =
+  text_fits text small =
       chosen IsCondition (ltb MOST_BYTES (length text)) (refused 1 kinds.TooLong) (read_words layout (length text) (cuts text) at_start) (λ e. tt)
-      (λ e. words_fit (length text) (cuts text) at_start (tt, tt))
+      (λ e. words_fit (length text) (cuts text) at_start (cuts_fit text small) (tt, tt))
 
 pub read_fits : ReadIsCondition
-read_fits layout text p fits h = subst (λ r. IfOk r IsCondition) h (text_fits layout fits text)
+read_fits layout text p fits small h = subst (λ r. IfOk r IsCondition) h (text_fits layout fits text small)

@@ -6,4 +6,5 @@ mod Steps
 mod WordsAgain
 mod ReadBack
 mod RangesAgain
+mod QuotesAgain
 mod Fitting

@@ -133,7 +133,7 @@ module _ (layout : List (List ℕ × Field)) (bytes : ℕ) where
 
   -- ---- bytes
 
-  bytes_word : (offset : ℕ) → offset < 2 ^ 16 → IsWord (codes "bytes@" ++ decimal offset)
+  pub bytes_word : (offset : ℕ) → offset < 2 ^ 16 → IsWord (codes "bytes@" ++ decimal offset)
   bytes_word offset small = record { all = word_decimal offset (omega arith); some = omega arith }
 
   bytes_subject : (offset : ℕ) → offset < 2 ^ 16 → subject_of layout (codes "bytes@" ++ decimal offset) ≡ Ok (BytesCompared offset)
@@ -141,7 +141,7 @@ module _ (layout : List (List ℕ × Field)) (bytes : ℕ) where
       ap (subject_in layout (codes "bytes@" ++ decimal offset)) (cut_there (codes "bytes") 64 (decimal offset) refl refl)
       ∙ ap (λ (r : Result ℕ FaultKind). r >>= λ o. Ok (BytesCompared o)) (offset_again offset small)
 
-  bytes_step : (offset : ℕ) (before : List Open) → offset < 2 ^ 16 → (column : ℕ)
+  pub bytes_step : (offset : ℕ) (before : List Open) → offset < 2 ^ 16 → (column : ℕ)
       → step layout column (codes "bytes@" ++ decimal offset) (record { stage = Wanted; before = before }) ≡ Ok (record { stage = BytesCompared offset; before = before })
   bytes_step offset before small column =
       not_blank column (codes "bytes@" ++ decimal offset) (record { stage = Wanted; before = before }) (bytes_word offset small)
@@ -158,21 +158,21 @@ module _ (layout : List (List ℕ × Field)) (bytes : ℕ) where
       ∙ ap (λ r. at column (decoded r) >>= λ found. Ok (settled before (bytes_condition offset there found))) (decode_of-encode_lower bs small)
 
   -- `==` where the bytes are to be there, else `!=`
-  there_text : Bool → List ℕ
+  unfoldable pub there_text : Bool → List ℕ
   there_text true = codes "=="
   there_text false = codes "!="
 
-  there_some : (there : Bool) → 0 < length (there_text there)
+  pub there_some : (there : Bool) → 0 < length (there_text there)
   unfolding there_text
   there_some true = omega arith
   there_some false = omega arith
 
-  there_width : (there : Bool) (r : List ℕ) → width (there_text there ++ 32 ∷ r) ≡ length (there_text there)
+  pub there_width : (there : Bool) (r : List ℕ) → width (there_text there ++ 32 ∷ r) ≡ length (there_text there)
   unfolding there_text
   there_width true r = refl
   there_width false r = refl
 
-  there_step : (offset : ℕ) (there : Bool) (before : List Open) (column : ℕ)
+  pub there_step : (offset : ℕ) (there : Bool) (before : List Open) (column : ℕ)
       → step layout column (there_text there) (record { stage = BytesCompared offset; before = before }) ≡ Ok (record { stage = AgainstBytes offset there; before = before })
   unfolding there_text
   there_step offset true before column = refl

@@ -157,7 +157,7 @@ no_symbol c (b ∷ bs) e all =
 
 -- ---- fields
 
-place_before : (front : List ℕ) (y : ℕ) (rest : List ℕ) → list_all (λ b. not (eqb b y)) front ≡ true → eqb y y ≡ true → position_or_len (λ b. eqb b y) (front ++ y ∷ rest) ≡ length front
+pub place_before : (front : List ℕ) (y : ℕ) (rest : List ℕ) → list_all (λ b. not (eqb b y)) front ≡ true → eqb y y ≡ true → position_or_len (λ b. eqb b y) (front ++ y ∷ rest) ≡ length front
 place_before front y rest h e =
     position_or_len_is (λ b. eqb b y) (front ++ y ∷ rest) (length front) 0 (omega (arith, length-append front (y ∷ rest)))
     (λ k inside. ap (λ b. eqb b y) (get_or-append front (y ∷ rest) 0 k inside) ∙ not-true _ (AllPass-from_list_all (λ b. not (eqb b y)) front h k 0 inside))

@@ -1,5 +1,5 @@
 -- How the text of a question is cut into words.
-use Rattle.std.specs.Prelude.{ℕ, zero, suc, ◌-◌, ◌==◌, Bool, not, ◌&&◌, ◌||◌, if◌then◌else◌, List, [], ◌∷◌, length, take, slice_index}
+use Rattle.std.specs.Prelude.{ℕ, zero, suc, ◌+◌, ◌-◌, min, ◌==◌, Bool, not, ◌&&◌, ◌||◌, if◌then◌else◌, List, [], ◌∷◌, length, take, drop, slice_index}
 use Rattle.std.specs.List.{position_or_len}
 use Rattle.std.specs.Char.{is_ascii_alphanumeric}
 
@@ -17,11 +17,16 @@ is_pair a b =
 abbrev pub symbol_width : ℕ → ℕ → ℕ → ℕ
 symbol_width a b c = if is_pair a b then (if a == 46 && c == 61 then 3 else 2) else 1
 
--- how many bytes the first word of a text has: all that names are made of, or those of a symbol
+-- how many bytes a text in quotes has, with them: up to the second `"`, or all where there is none
+abbrev pub quoted_width : List ℕ → ℕ
+quoted_width text = min (length text) (position_or_len (λ byte. byte == 34) (drop 1 text) + 2)
+
+-- how many bytes the first word of a text has: all that names are made of, those of a text in quotes, or those of a symbol
 abbrev pub width : List ℕ → ℕ
 width text =
     if is_word_byte (slice_index text 0) then position_or_len (λ byte. not (is_word_byte byte)) text
-    else symbol_width (slice_index text 0) (slice_index text 1) (slice_index text 2)
+    else (if slice_index text 0 == 34 then quoted_width text
+    else symbol_width (slice_index text 0) (slice_index text 1) (slice_index text 2))
 
 -- a word, and how many bytes the text has from its first on
 pub record Cut : Type 0 where

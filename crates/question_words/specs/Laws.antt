@@ -1,6 +1,7 @@
 -- The laws of questions in words.
-use Rattle.std.specs.Prelude.{ℕ, ◌≡◌, ◌<◌, ◌≤◌, ◌^◌, ◌⊎◌, true, List, [], ◌∷◌, ◌++◌, length, Some, Ok, codes}
-use Rattle.std.specs.List.{AllByRecursion}
+use Rattle.std.specs.Prelude.{ℕ, ◌≡◌, ◌<◌, ◌≤◌, ◌^◌, ◌⊎◌, ◌==◌, true, not, List, [], ◌∷◌, ◌++◌, length, Some, Ok, codes}
+use Rattle.std.specs.Fmt.{decimal}
+use Rattle.std.specs.List.{AllByRecursion, list_all}
 use Rattle.hex.specs.Hex.{IsBytes}
 use Rattle.record_questions.specs.declared.question.Comparison.{Comparison}
 use Rattle.record_questions.specs.declared.question.Comparison.TheVariants.{Equal, Less, LessOrEqual, GreaterOrEqual}
@@ -69,6 +70,21 @@ OtherBytesRead =
     (offset : ℕ) (bytes : List ℕ) → IsCondition (Bytes offset bytes)
     → ReadsAs (bytes_text offset (codes " != 0x") bytes) (Not (Bytes offset bytes))
 
+-- bytes between quotes
+abbrev pub quoted : List ℕ → List ℕ
+quoted bytes = 34 ∷ (bytes ++ 34 ∷ [])
+
+-- a comparison of bytes that are between quotes
+abbrev pub quoted_text : ℕ → List ℕ → List ℕ → List ℕ
+quoted_text offset comparison bytes = codes "bytes@" ++ (decimal offset ++ (comparison ++ quoted bytes))
+
+-- bytes between quotes, of which none is a quote, are read as they are
+abbrev pub QuotesRead : Type 0
+QuotesRead =
+    (offset : ℕ) (bytes : List ℕ) → offset < 2 ^ 16 → 0 < length bytes → list_all (λ byte. not (byte == 34)) bytes ≡ true
+    → ReadsAs (quoted_text offset (codes " == ") bytes) (Bytes offset bytes)
+    × ReadsAs (quoted_text offset (codes " != ") bytes) (Not (Bytes offset bytes))
+
 -- a comparison of what has a name
 abbrev pub named_text : List ℕ → Comparison → Operand → List ℕ
 named_text name comparison operand = name ++ (codes " " ++ (comparison_text comparison ++ (codes " " ++ operand_word operand)))
@@ -124,8 +140,8 @@ SetsRead =
 abbrev pub IsLayout : List (List ℕ × Field) → Type 0
 IsLayout layout = (name : List ℕ) (field : Field) → field_named layout name ≡ Some field → IsField field
 
--- what is read of a text is a condition whose numbers fit, so that what is printed of it is read back
+-- what is read of a text of bytes is a condition whose numbers fit, so that what is printed of it is read back
 abbrev pub ReadIsCondition : Type 0
 ReadIsCondition =
-    (layout : List (List ℕ × Field)) (text : List ℕ) (p : Condition) → IsLayout layout → condition_of layout text ≡ Ok p
-    → IsCondition p
+    (layout : List (List ℕ × Field)) (text : List ℕ) (p : Condition) → IsLayout layout → IsBytes text
+    → condition_of layout text ≡ Ok p → IsCondition p

@@ -99,9 +99,16 @@ decoded (Err fault) = Err kinds.Bytes
 abbrev pub bytes_written : List ℕ → Result (List ℕ) FaultKind
 bytes_written digits = if length digits == 0 then Err kinds.Bytes else decoded (decode_of digits)
 
--- the bytes that a word is
+-- those before the second quote
+abbrev pub bytes_before_quote : Option (List ℕ × List ℕ) → Result (List ℕ) FaultKind
+bytes_before_quote None = Err kinds.Quote
+bytes_before_quote (Some parts) = if length parts.0 == 0 then Err kinds.Bytes else Ok parts.0
+
+-- the bytes that a word is: between quotes, or by digits after `0x`
 abbrev pub bytes_of : List ℕ → Result (List ℕ) FaultKind
-bytes_of word = if slice_index word 0 == 48 && slice_index word 1 == 120 then bytes_written (drop 2 word) else Err kinds.Bytes
+bytes_of word =
+    if slice_index word 0 == 34 then bytes_before_quote (cut_at 34 (drop 1 word))
+    else (if slice_index word 0 == 48 && slice_index word 1 == 120 then bytes_written (drop 2 word) else Err kinds.Bytes)
 
 -- a record has these bytes, or hasn't
 abbrev pub bytes_condition : ℕ → Bool → List ℕ → Condition

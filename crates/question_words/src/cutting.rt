@@ -2,7 +2,7 @@
 
 ghost use Rattle.std.specs.Prelude.{◌≡◌, ◌<◌, ◌≤◌, ◌==◌, ◌&&◌, true, not, length, take, drop, position, slice_index, IfSome};
 ghost use Rattle.std.specs.List.{position_or_len};
-ghost use Rattle.question_words.specs.Cutting.{is_word_byte, is_pair, symbol_width, width};
+ghost use Rattle.question_words.specs.Cutting.{is_word_byte, is_pair, quoted_width, symbol_width, width};
 
 /// The first word of a text, and the text after it. A blank is a word too.
 pub(crate) fn first_word(text: &[u8]) -> (&[u8], &[u8])
@@ -23,9 +23,33 @@ fn word_bytes(text: &[u8]) -> usize
 {
     if is_in_word(text[0]) {
         name_bytes(text)
+    } else if text[0] == b'"' {
+        quoted_bytes(text)
     } else {
         symbol_bytes(text)
     }
+}
+
+/// How many bytes a text in quotes has, with them.
+fn quoted_bytes(text: &[u8]) -> usize
+    requires { 0 < length text.now }
+    ensures value { result ≡ quoted_width text.now }
+    ensures some { 0 < result }
+    ensures within { result ≤ length text.now }
+{
+    let inside = &text[1..];
+    match quote_at(inside) {
+        Some(at) => at + 2,
+        None => text.len(),
+    }
+}
+
+/// The first quote.
+fn quote_at(text: &[u8]) -> Option<usize>
+    ensures value { result ≡ position (λ byte. byte == 34) text.now }
+    ensures within { IfSome result (λ at. at < length text.now) }
+{
+    text.iter().position(|byte| *byte == b'"')
 }
 
 /// How many bytes a word has that begins with no byte of names.

@@ -51,8 +51,11 @@ pub enum FaultKind {
     #[error("a field is compared with one that is signed as it is, or unsigned as it is")]
     Sign,
     /// Bytes aren't written so.
-    #[error("bytes are expected: two hexadecimal digits for each and one byte or more, after 0x")]
+    #[error("bytes are expected: one or more, as two hexadecimal digits for each after 0x, or between quotes")]
     Bytes,
+    /// After a quote there is no second.
+    #[error("a second quote is missing")]
+    Quote,
     /// After a condition there is something else.
     #[error("`&&`, `||`, `)` or the end is expected")]
     Joint,

@@ -1,6 +1,6 @@
 //! The laws of questions in words. The functions do nothing: what they ensure is the laws.
 
-ghost use Rattle.question_words.specs.Laws.{NamesRead, OtherBytesRead, RangesRead, ReadIsCondition, SetsRead, WordsHavePrecedence, WordsReadBack};
+ghost use Rattle.question_words.specs.Laws.{NamesRead, OtherBytesRead, QuotesRead, RangesRead, ReadIsCondition, SetsRead, WordsHavePrecedence, WordsReadBack};
 
 /// What is printed of a condition is read as the same, whatever the layout, where its numbers fit their fields, its bytes are one or
 /// more, and its text has at most `MOST_BYTES` bytes.
@@ -24,8 +24,8 @@ pub fn names_are_read()
     ensures { NamesRead }
 {}
 
-/// Of a condition that is read by a layout whose fields' offsets are below 2^16, numbers fit their fields and bytes are one or more, so
-/// that what is printed of it is read back.
+/// Of a condition that is read of bytes, by a layout whose fields' offsets are below 2^16, numbers fit their fields and bytes are one or
+/// more, so that what is printed of it is read back.
 pub fn read_is_condition()
     ensures { ReadIsCondition }
 {}
@@ -38,4 +38,9 @@ pub fn ranges_are_read()
 /// A field that is in a set is one of its elements: the comparisons of the elements are joined by `||`, in order.
 pub fn sets_are_read()
     ensures { SetsRead }
+{}
+
+/// Bytes between quotes are read as they are: without quotes among them, and one or more.
+pub fn quotes_are_read()
+    ensures { QuotesRead }
 {}

@@ -9,7 +9,7 @@ ghost use Rattle.question_words.specs.Condition.{said};
 ghost use Rattle.question_words.specs.Fault.{at, fault_of};
 ghost use Rattle.question_words.specs.Layout.{entries};
 ghost use Rattle.question_words.specs.Operand.{begins_number};
-ghost use Rattle.question_words.specs.Reading.{all_of, bytes_condition, bytes_of, bytes_written, closed as closed_at, compared as compared_of, finished, is_blank, is_there, joined as joined_at, next as next_of, settled, step as step_of, subject_in, subject_of, wanted as wanted_at, with_or as with_or_of, Wanted as AtWanted};
+ghost use Rattle.question_words.specs.Reading.{all_of, bytes_before_quote, bytes_condition, bytes_of, bytes_written, closed as closed_at, compared as compared_of, finished, is_blank, is_there, joined as joined_at, next as next_of, settled, step as step_of, subject_in, subject_of, wanted as wanted_at, with_or as with_or_of, Wanted as AtWanted};
 ghost use Rattle.question_words.specs.steps.Views.{open_view, opens, reading_view, stage_view};
 
 use crate::fault::{FaultKind, ReadFault, fault, located};
@@ -208,8 +208,20 @@ fn bytes(alloc: Global, column: usize, word: &[u8]) -> Result<Vec<u8>, ReadFault
     ensures { Gives fault_of (λ bytes. bytes.items) result (at column (bytes_of word.now)) }
 {
     match word {
+        [b'"', inside @ ..] => quoted(alloc, column, inside),
         [b'0', b'x', digits @ ..] => written(alloc, column, digits),
         _ => Err(fault(column, FaultKind::Bytes)),
+    }
+}
+
+/// The bytes before the second quote, one or more.
+fn quoted(alloc: Global, column: usize, inside: &[u8]) -> Result<Vec<u8>, ReadFault>
+    ensures { Gives fault_of (λ bytes. bytes.items) result (at column (bytes_before_quote (cut_at 34 inside.now))) }
+{
+    match cut(inside, b'"') {
+        Some((text, _)) if !text.is_empty() => Ok(Vec::from_slice(alloc, text)?),
+        Some(_) => Err(fault(column, FaultKind::Bytes)),
+        None => Err(fault(column, FaultKind::Quote)),
     }
 }
 
