@@ -48,6 +48,7 @@ ROOTS: List[Key] = [
     ("question_words/specs/Laws.antt", "RangesRead"),
     ("question_words/specs/Laws.antt", "SetsRead"),
     ("question_words/specs/Laws.antt", "QuotesRead"),
+    ("question_words/specs/Laws.antt", "TextsRead"),
     ("question_words/specs/Laws.antt", "ReadIsCondition"),
 ]
 

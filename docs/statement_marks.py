@@ -246,7 +246,8 @@ MARKS: Dict[str, str] = {
     "question_words/specs/LayoutText.antt": "P: is_name_byte begins_name is_taken_word is_field_name",
     "question_words/specs/Laws.antt": (
         "-: IsField IsOperand IsCondition ReadsBy ReadsAs WordsReadBack row_text Precedence WordsHavePrecedence OtherBytesRead "
-        "named_text NamesRead Says range_text RangesRead rest_text set_text either_of SetsRead quoted quoted_text QuotesRead IsLayout ReadIsCondition"
+        "named_text NamesRead Says range_text RangesRead rest_text set_text either_of SetsRead quoted quoted_text QuotesRead "
+        "TextsRead IsLayout ReadIsCondition"
     ),
     "question_words/specs/Number.antt": "P: numeral_of magnitude_of literal_of",
     "question_words/specs/Operand.antt": (
@@ -255,9 +256,10 @@ MARKS: Dict[str, str] = {
     ),
     "question_words/specs/Printing.antt": "P: bytes_text not_text part_text condition_text",
     "question_words/specs/Reading.antt": (
-        "P: Open Stage State settled with_or closed all_of subject_in subject_of wanted is_there decoded bytes_written bytes_before_quote bytes_of "
-        "bytes_condition joined in_state listed bounded begun next_within compared next is_blank step wanted_within finished "
-        "read_words at_start condition_of"
+        "P: Open Stage State settled with_or closed all_of subject_in subject_of wanted is_there decoded bytes_written "
+        "bytes_before_quote bytes_of bytes_condition joined in_state listed bounded begun next_within compared is_equal "
+        "sized text_at text_against operand_against against next is_blank step wanted_within finished read_words "
+        "at_start condition_of"
     ),
     "question_words/specs/Within.antt": "P: range_condition one_condition more_condition bound_of Within",
     "text_lines/specs/Cut.antt": "P: cut_at",

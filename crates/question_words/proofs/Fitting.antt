@@ -5,6 +5,7 @@ use Rattle.std.specs.List.{AllByRecursion, after_first, position_or_len}
 use Rattle.std.proofs.lemmas.Bool.{ltb-true}
 use Rattle.hex.specs.Hex.{IsBytes, decode_of}
 use Rattle.hex.proofs.HexLemmas.{decode_of-ok}
+use Rattle.instruction_set.specs.Instruction.{size_of}
 use Rattle.record_questions.specs.declared.question.Field.{Field}
 use Rattle.record_questions.specs.declared.question.Comparison.{Comparison}
 use Rattle.record_questions.specs.declared.question.Operand.{Operand}
@@ -23,7 +24,7 @@ use Rattle.question_words.specs.Laws.{IsCondition, IsField, IsLayout, IsOperand,
 use Rattle.question_words.specs.Layout.{field_named}
 use Rattle.question_words.specs.Number.{literal_of}
 use Rattle.question_words.specs.Operand.{begins_number, comparison_of, field_for, is_of_type, is_same_sign, number_for, operand_of}
-use Rattle.question_words.specs.Reading.{Against, AgainstBytes, BytesCompared, Compared, In, Open, OpenAnd, OpenNot, OpenOr, OpenParenthesis, Stage, State, Wanted, Whole, all_of, at_start, begun, bounded, bytes_before_quote, bytes_condition, bytes_of, bytes_written, closed, compared, condition_of, decoded, finished, in_state, is_blank, is_there, joined, listed, next, next_within, read_words, settled, step, subject_in, subject_of, wanted, with_or}
+use Rattle.question_words.specs.Reading.{Against, AgainstBytes, BytesCompared, Compared, In, Open, OpenAnd, OpenNot, OpenOr, OpenParenthesis, Stage, State, Wanted, Whole, against, all_of, at_start, begun, bounded, bytes_before_quote, bytes_condition, bytes_of, bytes_written, closed, compared, condition_of, decoded, finished, in_state, is_blank, is_equal, is_there, joined, listed, next, next_within, operand_against, read_words, settled, sized, step, subject_in, subject_of, text_against, text_at, wanted, with_or}
 use Rattle.question_words.specs.Within.{Begun, First, From, Listed, More, Until, Within, bound_of, more_condition, one_condition, range_condition}
 
 -- ---- one reading after another
@@ -302,12 +303,32 @@ module _ (layout : List (List ℕ × Field)) (fits : IsLayout layout) where
   within_fits column word field (More c) before s p h =
       operand_makes column word field (λ o. in_state field (Listed (more_condition c field o)) before) (λ o fits. ((s, (p, (s, fits))), h))
 
+  text_fits_field : (column : ℕ) (field : Field) (word : List ℕ) → IsBytes word → IfOk (text_at column field word) AreBytes
+  unfolding text_at
+  text_fits_field column field word b =
+      chained AreBytes AreBytes (at column (bytes_of word)) (λ bytes. at column (sized field bytes)) (placed AreBytes column (bytes_of word) (bytes_fit word b))
+      (λ bytes are. placed AreBytes column (sized field bytes) (chosen AreBytes (eqb (length bytes) (size_of field.size)) (Ok bytes) (Err kinds.Length) (λ e. are) (λ e. tt)))
+
+  text_against_fits : (column : ℕ) (word : List ℕ) (field : Field) (comparison : Comparison) (before : List Open) → IsBytes word → IsField field → AreOpen before
+      → IfOk (text_against column word field comparison before) IsState
+  unfolding text_against
+  text_against_fits column word field comparison before b s h =
+      after_any IsState (at column (is_equal comparison)) (λ there. text_at column field word >>= λ bytes. Ok (settled before (bytes_condition field.offset there bytes)))
+      (λ there. chained AreBytes IsState (text_at column field word) (λ bytes. Ok (settled before (bytes_condition field.offset there bytes))) (text_fits_field column field word b)
+      (λ bytes are. settled_fits before (bytes_condition field.offset there bytes) h (bytes_condition_fits field.offset there bytes (s, are))))
+
+  against_fits : (column : ℕ) (word : List ℕ) (field : Field) (comparison : Comparison) (before : List Open) → IsBytes word → IsField field → AreOpen before
+      → IfOk (against layout column word field comparison before) IsState
+  unfolding against operand_against
+  against_fits column word field comparison before b s h =
+      chosen IsState (eqb (get_or word 0 0) 34) (text_against column word field comparison before) (operand_against layout column word field comparison before)
+      (λ e. text_against_fits column word field comparison before b s h)
+      (λ e. operand_makes column word field (λ operand. settled before (Compare field comparison operand)) (λ operand o. settled_fits before (Compare field comparison operand) h (s, o)))
+
   next_fits : (column : ℕ) (word : List ℕ) (stage : Stage) (before : List Open) → IsBytes word → IsStage stage → AreOpen before → IfOk (next layout column word stage before) IsState
   next_fits column word Wanted before b s h = wanted_fits column word before h
   next_fits column word (Compared field) before b s h = compared_step_fits column word field before s h
-  next_fits column word (Against field comparison) before b s h =
-      chained (IsOperand field) IsState (at column (operand_of layout field word)) (λ operand. Ok (settled before (Compare field comparison operand)))
-      (placed (IsOperand field) column (operand_of layout field word) (operand_fits field word)) (λ operand o. settled_fits before (Compare field comparison operand) h (s, o))
+  next_fits column word (Against field comparison) before b s h = against_fits column word field comparison before b s h
   next_fits column word (BytesCompared offset) before b s h =
       after_any IsState (at column (is_there word)) (λ there. Ok (record { stage = AgainstBytes offset there; before = before })) (λ there. (s, h))
   next_fits column word (AgainstBytes offset there) before b s h =

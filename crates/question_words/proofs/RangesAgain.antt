@@ -35,11 +35,11 @@ rest_first [] = refl
 rest_first (o ∷ os) = refl
 
 module _ (layout : List (List ℕ × Field)) (bytes : ℕ) where
-  says_word : (word : List ℕ) (field : Field) → Says layout word field → IsWord word
+  pub says_word : (word : List ℕ) (field : Field) → Says layout word field → IsWord word
   says_word word field (inl (small, e)) = subst IsWord (sym e) (field_is_word field small)
   says_word word field (inr (h, found)) = name_is_word word h
 
-  says_step : (word : List ℕ) (field : Field) → Says layout word field → (column : ℕ) → step layout column word at_start ≡ Ok (record { stage = Compared field; before = [] })
+  pub says_step : (word : List ℕ) (field : Field) → Says layout word field → (column : ℕ) → step layout column word at_start ≡ Ok (record { stage = Compared field; before = [] })
   says_step word field (inl (small, e)) column = ap (λ (w : List ℕ). step layout column w at_start) e ∙ field_step layout bytes field [] small column
   says_step word field (inr (h, found)) column = name_step layout bytes word field h found column
 

@@ -27,9 +27,14 @@ use Rattle.question_words.specs.Layout.{field_named}
 use Rattle.question_words.specs.LayoutText.{is_field_name}
 use Rattle.question_words.specs.Operand.{comparison_text, operand_word}
 use Rattle.question_words.specs.Printing.{bytes_text, condition_text, not_text, part_text}
-use Rattle.question_words.specs.Reading.{Against, AgainstBytes, BytesCompared, OpenAnd, Compared, OpenOr, Open, OpenNot, OpenParenthesis, Stage, State, Wanted, Whole, at_start, bytes_condition, compared, condition_of, decoded, joined, next, read_words, settled, step, subject_in, subject_of, wanted, with_or}
+use Rattle.question_words.specs.Reading.{Against, AgainstBytes, BytesCompared, OpenAnd, Compared, OpenOr, Open, OpenNot, OpenParenthesis, Stage, State, Wanted, Whole, against, at_start, bytes_condition, compared, condition_of, decoded, joined, next, operand_against, read_words, settled, step, subject_in, subject_of, text_against, wanted, with_or}
 use Rattle.question_words.proofs.FirstWords.{cuts_none, cuts_word, word_width}
-use Rattle.question_words.proofs.WordsAgain.{IsWord, cut_field, cut_name, cut_there, field_again, field_is_word, name_again, name_begins_comparison, name_is_word, no_blank, no_symbol, offset_again, operand_again, operand_is_word, word_decimal, word_hex}
+use Rattle.question_words.proofs.WordsAgain.{IsWord, cut_field, cut_name, cut_there, field_again, field_is_word, name_again, name_begins_comparison, name_is_word, no_blank, no_symbol, not_byte, offset_again, operand_again, operand_is_word, word_decimal, word_hex}
+
+-- no word that names are made of begins with a quote
+no_quote_first : (w : List ℕ) → IsWord w → eqb (get_or w 0 0) 34 ≡ false
+no_quote_first [] word = absurd (omega (arith, word.some))
+no_quote_first (b ∷ bs) word = not_byte b 34 (and_parts (is_word_byte b) (list_all is_word_byte bs) word.all).0 refl
 
 module _ (layout : List (List ℕ × Field)) (bytes : ℕ) where
   -- what a text makes of what is read so far
@@ -116,8 +121,10 @@ module _ (layout : List (List ℕ × Field)) (bytes : ℕ) where
 
   operand_step : (field : Field) (comparison : Comparison) (operand : Operand) (before : List Open) → IsOperand field operand → (column : ℕ)
       → step layout column (operand_word operand) (record { stage = Against field comparison; before = before }) ≡ Ok (settled before (Compare field comparison operand))
+  unfolding against operand_against
   operand_step field comparison operand before fits column =
       not_blank column (operand_word operand) (record { stage = Against field comparison; before = before }) (operand_is_word field operand fits)
+      ∙ ap (λ (b : Bool). cond b (text_against column (operand_word operand) field comparison before) (operand_against layout column (operand_word operand) field comparison before)) (no_quote_first (operand_word operand) (operand_is_word field operand fits))
       ∙ ap (λ (r : Result Operand FaultKind). at column r >>= λ o. Ok (settled before (Compare field comparison o))) (operand_again layout field operand fits)
 
   compare_goes : (field : Field) (comparison : Comparison) (operand : Operand) → IsField field → IsOperand field operand → (r : List ℕ) → is_word_byte (get_or r 0 0) ≡ false → (before : List Open)

@@ -3,6 +3,7 @@ use Rattle.std.specs.Prelude.{ℕ, ◌≡◌, ◌<◌, ◌≤◌, ◌^◌, ◌�
 use Rattle.std.specs.Fmt.{decimal}
 use Rattle.std.specs.List.{AllByRecursion, list_all}
 use Rattle.hex.specs.Hex.{IsBytes}
+use Rattle.instruction_set.specs.Instruction.{size_of}
 use Rattle.record_questions.specs.declared.question.Comparison.{Comparison}
 use Rattle.record_questions.specs.declared.question.Comparison.TheVariants.{Equal, Less, LessOrEqual, GreaterOrEqual}
 use Rattle.record_questions.specs.declared.question.Field.{Field}
@@ -123,6 +124,14 @@ rest_text (element ∷ rest) = codes ", " ++ (operand_word element ++ rest_text 
 -- a field is in a set
 abbrev pub set_text : List ℕ → Operand → List Operand → List ℕ
 set_text word first rest = word ++ (codes " in {" ++ (operand_word first ++ rest_text rest))
+
+-- a field is compared with a text of as many bytes, of which none is a quote: they are asked for where the field is, or others
+abbrev pub TextsRead : Type 0
+TextsRead =
+    (layout : List (List ℕ × Field)) (word : List ℕ) (field : Field) (bytes : List ℕ) → Says layout word field
+    → length bytes ≡ size_of field.size → list_all (λ byte. not (byte == 34)) bytes ≡ true
+    → ReadsBy layout (word ++ (codes " == " ++ quoted bytes)) (Bytes field.offset bytes)
+    × ReadsBy layout (word ++ (codes " != " ++ quoted bytes)) (Not (Bytes field.offset bytes))
 
 -- it is one of some operands, to each of which it is compared in turn
 abbrev pub either_of : Field → Condition → List Operand → Condition

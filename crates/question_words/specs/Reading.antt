@@ -2,8 +2,10 @@
 use Rattle.std.specs.Prelude.{ℕ, ◌+◌, ◌-◌, ◌==◌, nat_lt, Bool, true, false, ◌||◌, ◌&&◌, if◌then◌else◌, List, [], ◌∷◌, length, drop, slice_index, Option, Some, None, Result, Ok, Err, codes}
 use Rattle.std.specs.Str.{bytes_eq}
 use Rattle.hex.specs.Hex.{decode_of}
+use Rattle.instruction_set.specs.Instruction.{size_of}
 use Rattle.record_questions.specs.declared.question.Field.{Field}
 use Rattle.record_questions.specs.declared.question.Comparison.{Comparison}
+use Rattle.record_questions.specs.declared.question.Comparison.TheVariants.{Equal, NotEqual}
 use Rattle.common_definitions.specs.Readings.{◌>>=◌}
 use Rattle.text_lines.specs.Cut.{cut_at}
 use Rattle.question_words.specs.declared.fault.FaultKind.{FaultKind}
@@ -160,12 +162,42 @@ compared column word field before =
     if bytes_eq word (codes "in") then Ok (in_state field Begun before)
     else (at column (comparison_of word) >>= λ comparison. Ok (record { stage = Against field comparison; before = before }))
 
+-- is a text asked for, or another?
+abbrev pub is_equal : Comparison → Result Bool FaultKind
+is_equal Equal = Ok true
+is_equal NotEqual = Ok false
+is_equal _ = Err kinds.BytesComparison
+
+-- bytes, where they are as many as a field has
+abbrev pub sized : Field → List ℕ → Result (List ℕ) FaultKind
+sized field bytes = if length bytes == size_of field.size then Ok bytes else Err kinds.Length
+
+-- the text that a word is, which has as many bytes as a field
+unfoldable pub text_at : ℕ → Field → List ℕ → Result (List ℕ) WordFault
+text_at column field word = at column (bytes_of word) >>= λ bytes. at column (sized field bytes)
+
+-- a field is compared with a text
+unfoldable pub text_against : ℕ → List ℕ → Field → Comparison → List Open → Result State WordFault
+text_against column word field comparison before =
+    at column (is_equal comparison) >>= λ there. text_at column field word >>= λ bytes.
+    Ok (settled before (bytes_condition field.offset there bytes))
+
+-- a field is compared with an operand
+unfoldable pub operand_against : List (List ℕ × Field) → ℕ → List ℕ → Field → Comparison → List Open → Result State WordFault
+operand_against layout column word field comparison before =
+    at column (operand_of layout field word) >>= λ operand. Ok (settled before (Compare field comparison operand))
+
+-- after a field and a comparison a text in quotes, or an operand
+unfoldable pub against : List (List ℕ × Field) → ℕ → List ℕ → Field → Comparison → List Open → Result State WordFault
+against layout column word field comparison before =
+    if slice_index word 0 == 34 then text_against column word field comparison before
+    else operand_against layout column word field comparison before
+
 -- what a word that is no blank makes of what is read so far
 abbrev pub next : List (List ℕ × Field) → ℕ → List ℕ → Stage → List Open → Result State WordFault
 next layout column word Wanted before = wanted layout column word before
 next layout column word (Compared field) before = compared column word field before
-next layout column word (Against field comparison) before =
-    at column (operand_of layout field word) >>= λ operand. Ok (settled before (Compare field comparison operand))
+next layout column word (Against field comparison) before = against layout column word field comparison before
 next layout column word (BytesCompared offset) before =
     at column (is_there word) >>= λ there. Ok (record { stage = AgainstBytes offset there; before = before })
 next layout column word (AgainstBytes offset there) before =
@@ -184,12 +216,9 @@ step layout column word state = if is_blank word then Ok state else next layout 
 
 -- what lacks of a range or a set
 abbrev pub wanted_within : Within → FaultKind
-wanted_within Begun = kinds.Operand
 wanted_within (From least) = kinds.Bound
-wanted_within (Until least comparison) = kinds.Operand
-wanted_within First = kinds.Operand
 wanted_within (Listed p) = kinds.Element
-wanted_within (More p) = kinds.Operand
+wanted_within _ = kinds.Operand
 
 -- the text ends
 abbrev pub finished : ℕ → Stage → List Open → Result Condition WordFault

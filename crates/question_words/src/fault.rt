@@ -53,6 +53,9 @@ pub enum FaultKind {
     /// Bytes aren't written so.
     #[error("bytes are expected: one or more, as two hexadecimal digits for each after 0x, or between quotes")]
     Bytes,
+    /// A text has more or fewer bytes than the field that it is compared with.
+    #[error("the text has another number of bytes than the field")]
+    Length,
     /// After a quote there is no second.
     #[error("a second quote is missing")]
     Quote,

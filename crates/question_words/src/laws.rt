@@ -1,6 +1,6 @@
 //! The laws of questions in words. The functions do nothing: what they ensure is the laws.
 
-ghost use Rattle.question_words.specs.Laws.{NamesRead, OtherBytesRead, QuotesRead, RangesRead, ReadIsCondition, SetsRead, WordsHavePrecedence, WordsReadBack};
+ghost use Rattle.question_words.specs.Laws.{NamesRead, OtherBytesRead, QuotesRead, RangesRead, ReadIsCondition, SetsRead, TextsRead, WordsHavePrecedence, WordsReadBack};
 
 /// What is printed of a condition is read as the same, whatever the layout, where its numbers fit their fields, its bytes are one or
 /// more, and its text has at most `MOST_BYTES` bytes.
@@ -43,4 +43,9 @@ pub fn sets_are_read()
 /// Bytes between quotes are read as they are: without quotes among them, and one or more.
 pub fn quotes_are_read()
     ensures { QuotesRead }
+{}
+
+/// A field is compared by `==` or `!=` with a text of as many bytes: the record has these where the field is, or others.
+pub fn texts_are_read()
+    ensures { TextsRead }
 {}

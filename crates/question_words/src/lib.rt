@@ -12,7 +12,8 @@
 //! - `price in 100..200` is `price >= 100 && price < 200`, and `price in 100..=200` is `price >= 100 && price <= 200`.
 //!   `region in {1, 2}` is `region == 1 || region == 2`. What is between is of the same kinds as on the right of a comparison.
 //! - `bytes@8 == 0x6162` asks for the bytes 61h and 62h from offset 8 on; by `!=` it asks for others. They can be
-//!   between quotes, as `bytes@8 == "ab"`, where a quote ends them whatever is before it.
+//!   between quotes, as `bytes@8 == "ab"`, where a quote ends them whatever is before it. `word == "lamp"`, of a field with as many
+//!   bytes, asks for them where the field is.
 //! - `!` takes what is next to it, `&&` is before `||`, and parentheses are before both.
 //! - Numbers are decimal, with a `-` in front where they are below zero, or hexadecimal after `0x`, without a `-`.
 #![tactic(auto)]
@@ -29,6 +30,7 @@ mod printing;
 mod reading;
 mod stack;
 mod stage;
+mod text;
 mod within;
 
 pub use fault::{FaultKind, ReadFault, WordFault};

@@ -15,8 +15,9 @@ ghost use Rattle.question_words.specs.steps.Views.{open_view, opens, reading_vie
 use crate::fault::{FaultKind, ReadFault, fault, located};
 use crate::field::{field, offset};
 use crate::layout::Layout;
-use crate::operand::{begins_word, comparison, is_number, operand};
+use crate::operand::{begins_word, comparison, is_number};
 use crate::stack::{Open, put, take};
+use crate::text::against;
 use crate::within::{Within, lacking, next_within};
 use hex::FromHexError;
 use record_questions::{Comparison, Field, Predicate};
@@ -88,13 +89,7 @@ fn next(
         Stage::Wanted => wanted(layout, column, word, before),
         Stage::Compared(field) => compared(column, word, field, before),
         Stage::Against(field, comparison) => {
-            let operand = located(column, operand(layout, field, word))?;
-            let condition = Predicate::Compare {
-                field,
-                comparison,
-                operand,
-            };
-            Ok(settle(alloc, before, condition)?)
+            against(alloc, layout, column, word, field, comparison, before)
         }
         Stage::BytesCompared(offset) => {
             let there = located(column, there(word))?;
@@ -204,7 +199,7 @@ fn there(word: &[u8]) -> Result<bool, FaultKind>
 }
 
 /// The bytes that a word is.
-fn bytes(alloc: Global, column: usize, word: &[u8]) -> Result<Vec<u8>, ReadFault>
+pub(crate) fn bytes(alloc: Global, column: usize, word: &[u8]) -> Result<Vec<u8>, ReadFault>
     ensures { Gives fault_of (λ bytes. bytes.items) result (at column (bytes_of word.now)) }
 {
     match word {
@@ -240,7 +235,7 @@ fn written(alloc: Global, column: usize, digits: &[u8]) -> Result<Vec<u8>, ReadF
 }
 
 /// The condition that a record has these bytes, or hasn't.
-fn bytes_predicate(
+pub(crate) fn bytes_predicate(
     alloc: Global,
     offset: u16,
     there: bool,
