@@ -16,7 +16,7 @@ use Rattle.text_lines.specs.Number.{decimal_of}
 use Rattle.question_words.specs.declared.fault.FaultKind.{FaultKind}
 use Rattle.question_words.specs.declared.fault.FaultKind.TheVariants as kinds
 use Rattle.question_words.specs.declared.reading.TheConstants.{MOST_BYTES}
-use Rattle.question_words.specs.Condition.{Condition, Compare, Bytes, And, Or, Not}
+use Rattle.question_words.specs.Condition.{Condition, Compare, Bytes, And, Not}
 use Rattle.question_words.specs.Cutting.{Cut, cuts, cuts_after, is_word_byte, width}
 use Rattle.question_words.specs.Fault.{at, refused}
 use Rattle.question_words.specs.Field.{field_in, field_of, offset_in, offset_of, shape_of, sign_of, typed_of}

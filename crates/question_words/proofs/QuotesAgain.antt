@@ -1,7 +1,7 @@
 -- Bytes between quotes are read.
-use Rattle.std.proofs.Common.{◌≡◌, ℕ, ◌+◌, ◌<◌, ◌^◌, min, Bool, true, false, not, cond, eqb, List, [], ◌∷◌, ◌++◌, length, get_or, Option, Result, Ok, Err, refl, sym, ap, ◌∙◌, codes, append_assoc, arith}
+use Rattle.std.proofs.Common.{◌≡◌, ℕ, ◌+◌, ◌<◌, ◌^◌, min, Bool, true, false, not, cond, eqb, List, [], ◌∷◌, ◌++◌, length, Option, Result, Ok, Err, refl, sym, ap, ◌∙◌, codes, append_assoc, arith}
 use Rattle.std.specs.Fmt.{decimal}
-use Rattle.std.specs.List.{list_all, position_or_len}
+use Rattle.std.specs.List.{list_all}
 use Rattle.std.proofs.lemmas.Bool.{eq-eqb, ne_eqb}
 use Rattle.std.proofs.lemmas.List.{append-nil, length-append}
 use Rattle.instruction_set.specs.Instruction.{size_of}
@@ -11,15 +11,13 @@ use Rattle.record_questions.specs.declared.question.Comparison.{Comparison}
 use Rattle.record_questions.specs.declared.question.Comparison.TheVariants.{Equal, NotEqual}
 use Rattle.record_questions.specs.declared.question.Field.{Field}
 use Rattle.common_definitions.specs.Readings.{◌>>=◌}
-use Rattle.text_lines.specs.Cut.{cut_at}
-use Rattle.question_words.specs.declared.fault.FaultKind.{FaultKind}
 use Rattle.question_words.specs.declared.fault.FaultKind.TheVariants as kinds
 use Rattle.question_words.specs.declared.fault.WordFault.{WordFault}
 use Rattle.question_words.specs.Condition.{Bytes, Not}
 use Rattle.question_words.specs.Cutting.{width}
 use Rattle.question_words.specs.Fault.{at}
 use Rattle.question_words.specs.Laws.{QuotesRead, Says, TextsRead, quoted, quoted_text}
-use Rattle.question_words.specs.Reading.{Against, AgainstBytes, Compared, State, Wanted, against, at_start, bytes_before_quote, bytes_condition, compared, settled, sized, step, text_against, text_at}
+use Rattle.question_words.specs.Reading.{Against, AgainstBytes, Compared, against, at_start, bytes_before_quote, bytes_condition, compared, settled, sized, step, text_against, text_at}
 use Rattle.question_words.proofs.FirstWords.{word_width}
 use Rattle.question_words.proofs.ReadBack.{blank, bytes_step, bytes_word, ends, goes_on, reading, there_some, there_step, there_text, there_width, within}
 use Rattle.question_words.proofs.RangesAgain.{says_step, says_word}

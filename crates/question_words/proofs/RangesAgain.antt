@@ -1,21 +1,21 @@
 -- Ranges and sets are read as what they are short for.
-use Rattle.std.proofs.Common.{◌≡◌, ℕ, ◌<◌, Bool, true, false, cond, eqb, List, [], ◌∷◌, ◌++◌, length, get_or, Result, Ok, Err, inl, inr, refl, sym, subst, ap, ◌∙◌, codes, arith}
+use Rattle.std.proofs.Common.{◌≡◌, ℕ, ◌<◌, Bool, false, cond, eqb, List, [], ◌∷◌, ◌++◌, length, get_or, Result, Ok, inl, inr, refl, sym, subst, ap, ◌∙◌, codes, arith}
 use Rattle.std.specs.List.{AllByRecursion, list_all}
 use Rattle.std.proofs.lemmas.Bool.{and_parts}
 use Rattle.std.proofs.lemmas.List.{append-nil}
 use Rattle.record_questions.specs.declared.question.Field.{Field}
 use Rattle.record_questions.specs.declared.question.Comparison.{Comparison}
-use Rattle.record_questions.specs.declared.question.Comparison.TheVariants.{Equal, Less, LessOrEqual, GreaterOrEqual}
+use Rattle.record_questions.specs.declared.question.Comparison.TheVariants.{Equal, Less, LessOrEqual}
 use Rattle.record_questions.specs.declared.question.Operand.{Operand}
 use Rattle.common_definitions.specs.Readings.{◌>>=◌}
 use Rattle.question_words.specs.declared.fault.FaultKind.{FaultKind}
-use Rattle.question_words.specs.Condition.{Condition, Compare, And, Or}
+use Rattle.question_words.specs.Condition.{Condition, Compare}
 use Rattle.question_words.specs.Cutting.{is_word_byte, width}
 use Rattle.question_words.specs.Fault.{at}
 use Rattle.question_words.specs.Laws.{IsOperand, RangesRead, Says, SetsRead, either_of, range_text, rest_text, set_text}
 use Rattle.question_words.specs.Operand.{operand_of, operand_word}
-use Rattle.question_words.specs.Reading.{Compared, In, Open, State, at_start, begun, bounded, compared, in_state, listed, next_within, settled, step}
-use Rattle.question_words.specs.Within.{Begun, First, From, Listed, More, Until, Within, more_condition, one_condition, range_condition}
+use Rattle.question_words.specs.Reading.{Compared, at_start, begun, bounded, compared, in_state, listed, next_within, settled, step}
+use Rattle.question_words.specs.Within.{Begun, First, From, Listed, More, Until, more_condition, one_condition, range_condition}
 use Rattle.question_words.proofs.FirstWords.{word_width}
 use Rattle.question_words.proofs.ReadBack.{blank, ends, field_step, goes_on, name_step, not_blank, reading, within}
 use Rattle.question_words.proofs.WordsAgain.{IsWord, field_is_word, name_is_word, no_symbol, not_byte, operand_again, operand_is_word}
