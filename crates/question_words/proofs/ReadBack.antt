@@ -22,7 +22,7 @@ use Rattle.question_words.specs.Condition.{Condition, Compare, Bytes, And, Or, N
 use Rattle.question_words.specs.Cutting.{Cut, cuts, is_word_byte, width}
 use Rattle.question_words.specs.Fault.{at, refused}
 use Rattle.question_words.specs.Field.{field_of, field_text, shape_text, sign_letter}
-use Rattle.question_words.specs.Laws.{IsCondition, IsField, IsOperand, NamesRead, OtherBytesRead, WordsHavePrecedence, WordsReadBack, named_text, row_text}
+use Rattle.question_words.specs.Laws.{IsCondition, IsField, IsOperand, NamesRead, OtherBytesRead, WordsReadBack, named_text}
 use Rattle.question_words.specs.Layout.{field_named}
 use Rattle.question_words.specs.LayoutText.{is_field_name}
 use Rattle.question_words.specs.Operand.{comparison_text, operand_word}
@@ -57,7 +57,7 @@ module _ (layout : List (List ℕ × Field)) (bytes : ℕ) where
   unfolding reading
   ends p = ap (λ (cs : List Cut). read_words layout bytes cs (record { stage = Whole p; before = [] })) cuts_none
 
-  ends_or : (p q : Condition) → reading [] (record { stage = Whole q; before = OpenOr p ∷ [] }) ≡ Ok (Or p q)
+  pub ends_or : (p q : Condition) → reading [] (record { stage = Whole q; before = OpenOr p ∷ [] }) ≡ Ok (Or p q)
   unfolding reading
   ends_or p q = ap (λ (cs : List Cut). read_words layout bytes cs (record { stage = Whole q; before = OpenOr p ∷ [] })) cuts_none
 
@@ -219,7 +219,7 @@ module _ (layout : List (List ℕ × Field)) (bytes : ℕ) where
   not_first (Or p q) own closed r = refl
 
   -- a condition inside another, and the text after it
-  shown : Condition → List ℕ → List ℕ
+  pub shown : Condition → List ℕ → List ℕ
   shown (Compare field comparison operand) r = field_text field ++ (32 ∷ (comparison_text comparison ++ (32 ∷ (operand_word operand ++ r))))
   shown (Bytes offset bs) r = bytes_shown offset true bs r
   shown (And p q) r = 40 ∷ shown p (codes " && " ++ shown q (41 ∷ r))
@@ -231,7 +231,7 @@ module _ (layout : List (List ℕ × Field)) (bytes : ℕ) where
   no_equals Signed = refl
 
   -- after a `!` no `=` is first
-  first_shown : (p : Condition) (r : List ℕ) → eqb (get_or (shown p r) 0 0) 61 ≡ false
+  pub first_shown : (p : Condition) (r : List ℕ) → eqb (get_or (shown p r) 0 0) 61 ≡ false
   unfolding shown bytes_shown
   first_shown (Compare field comparison operand) r = no_equals field.sign
   first_shown (Bytes offset bs) r = refl
@@ -264,7 +264,7 @@ module _ (layout : List (List ℕ × Field)) (bytes : ℕ) where
   opposite_goes (Or p q) fits r end before own closed =
       goes_on (33 ∷ []) (shown (Or p q) r) _ _ (omega arith) (ap (λ (b : Bool). cond b 2 1) (first_shown (Or p q) r)) (λ column. refl) ∙ own
 
-  shown_goes : (p : Condition) → IsCondition p → (r : List ℕ) → is_word_byte (get_or r 0 0) ≡ false → (before : List Open)
+  pub shown_goes : (p : Condition) → IsCondition p → (r : List ℕ) → is_word_byte (get_or r 0 0) ≡ false → (before : List Open)
       → reading (shown p r) (record { stage = Wanted; before = before }) ≡ reading r (settled before p)
   unfolding shown wanted joined
   shown_goes (Compare field comparison operand) fits r end before = compare_goes field comparison operand fits.0 fits.1 r end before
@@ -300,7 +300,7 @@ module _ (layout : List (List ℕ × Field)) (bytes : ℕ) where
   not_part (And p q) r own closed = ap (λ (t : List ℕ). 33 ∷ t) own
   not_part (Or p q) r own closed = ap (λ (t : List ℕ). 33 ∷ t) own
 
-  part_shown : (p : Condition) (r : List ℕ) → part_text p ++ r ≡ shown p r
+  pub part_shown : (p : Condition) (r : List ℕ) → part_text p ++ r ≡ shown p r
   unfolding shown bytes_shown there_text
   part_shown (Compare field comparison operand) r = simp append_assoc
   part_shown (Bytes offset bs) r = simp append_assoc
@@ -344,68 +344,7 @@ module _ (layout : List (List ℕ × Field)) (bytes : ℕ) where
       ∙ shown_goes q fits.1 [] refl (OpenOr p ∷ [])
       ∙ ends_or p q
 
-  -- ---- what stands without parentheses
-
-  and_read : (p : Condition) (before : List Open) (r : List ℕ)
-      → reading (codes " && " ++ r) (record { stage = Whole p; before = before }) ≡ reading r (record { stage = Wanted; before = OpenAnd p ∷ before })
-  unfolding joined
-  and_read p before r = blank _ _ ∙ goes_on (codes "&&") (32 ∷ r) _ _ (omega arith) refl (λ column. refl) ∙ blank _ _
-
-  or_read : (p : Condition) (before : List Open) (r : List ℕ)
-      → reading (codes " || " ++ r) (record { stage = Whole p; before = before })
-      ≡ reading r (record { stage = Wanted; before = OpenOr (with_or before p).0 ∷ (with_or before p).1 })
-  unfolding joined
-  or_read p before r = blank _ _ ∙ goes_on (codes "||") (32 ∷ r) _ _ (omega arith) refl (λ column. refl) ∙ blank _ _
-
-  not_read : (p : Condition) (r : List ℕ) → reading (33 ∷ shown p r) at_start ≡ reading (shown p r) (record { stage = Wanted; before = OpenNot ∷ [] })
-  unfolding wanted
-  not_read p r = goes_on (33 ∷ []) (shown p r) _ _ (omega arith) (ap (λ (b : Bool). cond b 2 1) (first_shown p r)) (λ column. refl)
-
-  two_shown : (p : Condition) (word : List ℕ) (q : Condition) → part_text p ++ (word ++ part_text q) ≡ shown p (word ++ shown q [])
-  two_shown p word q = part_shown p (word ++ part_text q) ∙ ap (λ (t : List ℕ). shown p (word ++ t)) (sym (append-nil (part_text q)) ∙ part_shown q [])
-
-  row_shown : (p : Condition) (first : List ℕ) (q : Condition) (second : List ℕ) (r : Condition) → row_text p first q second r ≡ shown p (first ++ shown q (second ++ shown r []))
-  row_shown p first q second r = part_shown p (first ++ (part_text q ++ (second ++ part_text r))) ∙ ap (λ (t : List ℕ). shown p (first ++ t)) (two_shown q second r)
-
-  or_and_again : (p q r : Condition) → IsCondition p → IsCondition q → IsCondition r → reading (row_text p (codes " || ") q (codes " && ") r) at_start ≡ Ok (Or p (And q r))
-  or_and_again p q r a b c =
-      ap (λ (t : List ℕ). reading t at_start) (row_shown p (codes " || ") q (codes " && ") r)
-      ∙ shown_goes p a (codes " || " ++ shown q (codes " && " ++ shown r [])) refl [] ∙ or_read p [] (shown q (codes " && " ++ shown r []))
-      ∙ shown_goes q b (codes " && " ++ shown r []) refl (OpenOr p ∷ []) ∙ and_read q (OpenOr p ∷ []) (shown r [])
-      ∙ shown_goes r c [] refl (OpenAnd q ∷ OpenOr p ∷ []) ∙ ends_or p (And q r)
-
-  and_or_again : (p q r : Condition) → IsCondition p → IsCondition q → IsCondition r → reading (row_text p (codes " && ") q (codes " || ") r) at_start ≡ Ok (Or (And p q) r)
-  and_or_again p q r a b c =
-      ap (λ (t : List ℕ). reading t at_start) (row_shown p (codes " && ") q (codes " || ") r)
-      ∙ shown_goes p a (codes " && " ++ shown q (codes " || " ++ shown r [])) refl [] ∙ and_read p [] (shown q (codes " || " ++ shown r []))
-      ∙ shown_goes q b (codes " || " ++ shown r []) refl (OpenAnd p ∷ []) ∙ or_read (And p q) [] (shown r [])
-      ∙ shown_goes r c [] refl (OpenOr (And p q) ∷ []) ∙ ends_or (And p q) r
-
-  and_and_again : (p q r : Condition) → IsCondition p → IsCondition q → IsCondition r → reading (row_text p (codes " && ") q (codes " && ") r) at_start ≡ Ok (And (And p q) r)
-  and_and_again p q r a b c =
-      ap (λ (t : List ℕ). reading t at_start) (row_shown p (codes " && ") q (codes " && ") r)
-      ∙ shown_goes p a (codes " && " ++ shown q (codes " && " ++ shown r [])) refl [] ∙ and_read p [] (shown q (codes " && " ++ shown r []))
-      ∙ shown_goes q b (codes " && " ++ shown r []) refl (OpenAnd p ∷ []) ∙ and_read (And p q) [] (shown r [])
-      ∙ shown_goes r c [] refl (OpenAnd (And p q) ∷ []) ∙ ends (And (And p q) r)
-
-  or_or_again : (p q r : Condition) → IsCondition p → IsCondition q → IsCondition r → reading (row_text p (codes " || ") q (codes " || ") r) at_start ≡ Ok (Or (Or p q) r)
-  or_or_again p q r a b c =
-      ap (λ (t : List ℕ). reading t at_start) (row_shown p (codes " || ") q (codes " || ") r)
-      ∙ shown_goes p a (codes " || " ++ shown q (codes " || " ++ shown r [])) refl [] ∙ or_read p [] (shown q (codes " || " ++ shown r []))
-      ∙ shown_goes q b (codes " || " ++ shown r []) refl (OpenOr p ∷ []) ∙ or_read q (OpenOr p ∷ []) (shown r [])
-      ∙ shown_goes r c [] refl (OpenOr (Or p q) ∷ []) ∙ ends_or (Or p q) r
-
-  not_and_again : (p q : Condition) → IsCondition p → IsCondition q → reading (codes "!" ++ (part_text p ++ (codes " && " ++ part_text q))) at_start ≡ Ok (And (Not p) q)
-  not_and_again p q a b =
-      ap (λ (t : List ℕ). reading (33 ∷ t) at_start) (two_shown p (codes " && ") q)
-      ∙ not_read p (codes " && " ++ shown q []) ∙ shown_goes p a (codes " && " ++ shown q []) refl (OpenNot ∷ []) ∙ and_read (Not p) [] (shown q [])
-      ∙ shown_goes q b [] refl (OpenAnd (Not p) ∷ []) ∙ ends (And (Not p) q)
-
-  not_or_again : (p q : Condition) → IsCondition p → IsCondition q → reading (codes "!" ++ (part_text p ++ (codes " || " ++ part_text q))) at_start ≡ Ok (Or (Not p) q)
-  not_or_again p q a b =
-      ap (λ (t : List ℕ). reading (33 ∷ t) at_start) (two_shown p (codes " || ") q)
-      ∙ not_read p (codes " || " ++ shown q []) ∙ shown_goes p a (codes " || " ++ shown q []) refl (OpenNot ∷ []) ∙ or_read (Not p) [] (shown q [])
-      ∙ shown_goes q b [] refl (OpenOr (Not p) ∷ []) ∙ ends_or (Not p) q
+  -- ---- bytes by `!=`
 
   other_bytes_shown : (offset : ℕ) (bs : List ℕ) → bytes_text offset (codes " != 0x") bs ≡ bytes_shown offset false bs []
   unfolding bytes_shown there_text
@@ -462,16 +401,6 @@ within layout text p again few =
 
 pub words_again : WordsReadBack
 words_again p fits layout = within layout (condition_text p) p (text_again layout (length (condition_text p)) p fits)
-
-pub precedence : WordsHavePrecedence
-precedence p q r a b c = record {
-  or_and = λ layout. within layout _ _ (or_and_again layout _ p q r a b c);
-  and_or = λ layout. within layout _ _ (and_or_again layout _ p q r a b c);
-  and_and = λ layout. within layout _ _ (and_and_again layout _ p q r a b c);
-  or_or = λ layout. within layout _ _ (or_or_again layout _ p q r a b c);
-  not_and = λ layout. within layout _ _ (not_and_again layout _ p q a b);
-  not_or = λ layout. within layout _ _ (not_or_again layout _ p q a b);
-}
 
 pub other_bytes : OtherBytesRead
 other_bytes offset bs fits layout = within layout _ _ (other_bytes_again layout _ offset bs fits)

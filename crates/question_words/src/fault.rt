@@ -33,7 +33,7 @@ pub enum FaultKind {
     #[error("bytes are compared by == or !=")]
     BytesComparison,
     /// No operand begins so.
-    #[error("a number, `arg` or a field is expected, or after `in` an opening brace")]
+    #[error("a number, `arg`, a field or a text in quotes is expected, or after `in` an opening brace")]
     Operand,
     /// After the first bound of a range there is neither `..` nor `..=`.
     #[error("after the first bound of a range `..` is expected, which leaves the second out, or `..=`, which has it")]

@@ -1,4 +1,4 @@
-use Rattle.question_words.proofs.ReadBack.{precedence}
+use Rattle.question_words.proofs.Precedence.{precedence}
 use Rattle.question_words.proofs.laws.words_have_precedence.Goals as goal
 
 pub returns : goal.returns
