@@ -27,7 +27,7 @@ use Rattle.question_words.specs.Layout.{field_named}
 use Rattle.question_words.specs.LayoutText.{is_field_name}
 use Rattle.question_words.specs.Operand.{comparison_text, operand_word}
 use Rattle.question_words.specs.Printing.{bytes_text, condition_text, not_text, part_text}
-use Rattle.question_words.specs.Reading.{Against, AgainstBytes, BytesCompared, OpenAnd, Compared, OpenOr, Open, OpenNot, OpenParenthesis, Stage, State, Wanted, Whole, against, at_start, bytes_condition, compared, condition_of, decoded, joined, next, operand_against, read_words, settled, step, subject_in, subject_of, text_against, wanted, with_or}
+use Rattle.question_words.specs.Reading.{Against, AgainstBytes, BytesCompared, OpenAnd, Compared, OpenOr, Open, OpenNot, OpenParenthesis, Stage, State, Wanted, Whole, against, at_start, bytes_condition, compared, condition_of, decoded, joined, next, operand_against, read_words, settled, step, subject_in, subject_of, text_against, wanted}
 use Rattle.question_words.proofs.FirstWords.{cuts_none, cuts_word, word_width}
 use Rattle.question_words.proofs.WordsAgain.{IsWord, cut_field, cut_name, cut_there, field_again, field_is_word, name_again, name_begins_comparison, name_is_word, no_blank, no_symbol, not_byte, offset_again, operand_again, operand_is_word, word_decimal, word_hex}
 
