@@ -42,6 +42,16 @@ ROOTS: List[Key] = [
     ("question_runs/specs/Words.antt", "ResultsHaveWords"),
     ("record_questions/specs/Tallies.antt", "WordsAreTallied"),
     ("record_questions/specs/Tallies.antt", "TalliesAreTotals"),
+    ("question_words/specs/Condition.antt", "said"),
+    ("question_words/specs/Laws.antt", "WordsReadBack"),
+    ("question_words/specs/Laws.antt", "WordsHavePrecedence"),
+    ("question_words/specs/Laws.antt", "OtherBytesRead"),
+    ("question_words/specs/Laws.antt", "NamesRead"),
+    ("question_words/specs/Laws.antt", "RangesRead"),
+    ("question_words/specs/Laws.antt", "SetsRead"),
+    ("question_words/specs/Laws.antt", "QuotesRead"),
+    ("question_words/specs/Laws.antt", "TextsRead"),
+    ("question_words/specs/Laws.antt", "ReadIsCondition"),
 ]
 
 # what is named there and stands in no booklet, each with the reason
@@ -253,10 +263,26 @@ QUESTIONS = Booklet(
     ],
 )
 
+WORDS = Booklet(
+    "words",
+    "Questions in words",
+    [
+        Section("Where words end", r"question_words/specs/Cutting\."),
+        Section(
+            "Numbers, fields and operands",
+            r"question_words/(specs/(Fault|Layout|Number|Field|Operand)|src/(fault|layout))\.|text_lines/",
+        ),
+        Section("How a condition is read", r"question_words/specs/(Condition|Within|Reading)\.|question_words/src/reading\."),
+        Section("The text of a condition", r"question_words/specs/Printing\."),
+        Section("Names of fields", r"question_words/specs/LayoutText\."),
+        Section("What is proved of them", r"question_words/specs/Laws\."),
+    ],
+)
+
 # in the order in which the pages name them
-BOOKLETS = [COMMANDS, RFC_9669, RUNS, DEVICE, ACCEPTANCE, QUESTIONS]
+BOOKLETS = [COMMANDS, RFC_9669, RUNS, DEVICE, ACCEPTANCE, QUESTIONS, WORDS]
 # where several have a file, the first of these that takes it
-BY_FILES = [QUESTIONS, RUNS, DEVICE, ACCEPTANCE, RFC_9669, COMMANDS]
+BY_FILES = [WORDS, QUESTIONS, RUNS, DEVICE, ACCEPTANCE, RFC_9669, COMMANDS]
 
 # a place: the number of a booklet, and that of a section in it
 At = Tuple[int, int]

@@ -237,6 +237,36 @@ MARKS: Dict[str, str] = {
     "question_compiler/specs/Fault.antt": "P: records_end emitted_end frame_bytes most_emitted IsFaultOf; -: HasNoFault",
     "question_compiler/src/fault.rt": "P: QuestionFault",
     "record_questions/specs/Code.antt": "P: counted",
+    "question_words/src/fault.rt": "P: FaultKind WordFault",
+    "question_words/src/reading.rt": "P: MOST_BYTES",
+    "question_words/specs/Condition.antt": "P: Condition said",
+    "question_words/specs/Cutting.antt": "P: is_word_byte is_pair symbol_width quoted_width width Cut cuts_after cuts",
+    "question_words/specs/Fault.antt": "-: refused at",
+    "question_words/specs/Field.antt": (
+        "P: sign_letter shape_text field_text sign_of shape_of offset_in offset_of typed_of field_in field_of"
+    ),
+    "question_words/specs/Layout.antt": "P: field_named",
+    "question_words/specs/LayoutText.antt": "P: is_name_byte begins_name is_taken_word is_field_name",
+    "question_words/specs/Laws.antt": (
+        "-: IsField IsOperand IsCondition ReadsBy ReadsAs WordsReadBack row_text Precedence WordsHavePrecedence OtherBytesRead "
+        "named_text NamesRead Says range_text RangesRead rest_text set_text either_of SetsRead quoted quoted_text QuotesRead "
+        "TextsRead IsLayout ReadIsCondition"
+    ),
+    "question_words/specs/Number.antt": "P: numeral_of magnitude_of literal_of",
+    "question_words/specs/Operand.antt": (
+        "P: comparison_text comparison_of least_of greatest_of is_of_type number_for is_same_sign field_for begins_number "
+        "operand_word operand_of"
+    ),
+    "question_words/specs/Printing.antt": "P: bytes_text not_text part_text condition_text",
+    "question_words/specs/Reading.antt": (
+        "P: Open Stage State settled with_or closed all_of subject_in subject_of wanted is_there decoded bytes_written "
+        "bytes_before_quote bytes_of bytes_condition joined in_state listed bounded begun next_within compared is_equal "
+        "sized text_at text_against operand_against against next is_blank step wanted_within finished read_words "
+        "at_start condition_of"
+    ),
+    "question_words/specs/Within.antt": "P: range_condition one_condition more_condition bound_of Within",
+    "text_lines/specs/Cut.antt": "P: cut_at",
+    "text_lines/specs/Number.antt": "P: number_below decimal_of",
     "pushdown/specs/ReadBack.antt": (
         "-: Submits IsCompleted LoadSucceeds NoRunEnds ReadsGive NoEventClears ResultGives NoEventReplaces"
     ),

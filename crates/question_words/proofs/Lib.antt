@@ -5,3 +5,7 @@ mod Named
 mod Steps
 mod WordsAgain
 mod ReadBack
+mod Precedence
+mod RangesAgain
+mod QuotesAgain
+mod Fitting

@@ -5,7 +5,7 @@ use Rattle.std.specs.Str.{bytes_eq}
 use Rattle.question_words.specs.declared.layout.NamedField.{NamedField}
 use Rattle.question_words.specs.Layout.{entry_of, field_named}
 
--- the name at a place is looked at before those behind it
+-- the name at a place is looked at before those after it
 pub named_at : (xs : List NamedField) (i : ℕ) (x : NamedField) (name : List ℕ) → i < length xs → x ≡ get_or xs i x
     → field_named (map entry_of (drop i xs)) name ≡ cond (bytes_eq x.name.items name) (Some x.field) (field_named (map entry_of (drop (i + 1) xs)) name)
 named_at xs i x name lt same =

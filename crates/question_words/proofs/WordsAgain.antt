@@ -1,13 +1,13 @@
 -- Fields, numbers and bytes that are printed are read again.
-use Rattle.std.proofs.Common.{◌≡◌, ℕ, ℤ, pos, negsuc, neg_ℤ, suc, ◌+◌, ◌/◌, ◌%◌, ◌<◌, ◌^◌, Bool, true, false, not, ◌&&◌, cond, ltb, eqb, List, [], ◌∷◌, ◌++◌, length, get_or, drop, Some, None, Result, Ok, Err, refl, sym, ap, ◌∙◌, codes, append_assoc, arith}
-use Rattle.std.specs.Prelude.{int_le, slice_index}
+use Rattle.std.proofs.Common.{◌≡◌, ℕ, ℤ, pos, negsuc, neg_ℤ, suc, ◌+◌, ◌/◌, ◌%◌, ◌<◌, ◌^◌, Bool, true, false, not, ◌&&◌, ◌||◌, cond, ltb, eqb, List, [], ◌∷◌, ◌++◌, length, get_or, drop, Option, Some, None, Result, Ok, Err, refl, sym, ap, ◌∙◌, codes, append_assoc, arith}
+use Rattle.std.specs.Prelude.{int_le, ok_or, slice_index}
 use Rattle.std.specs.List.{list_all, before_first, after_first, position_or_len}
-use Rattle.std.specs.Char.{is_digit, digit_value, is_ascii_digit}
+use Rattle.std.specs.Char.{is_digit, digit_value, is_ascii_alphanumeric, is_ascii_digit}
 use Rattle.std.specs.Str.{bytes_eq}
 use Rattle.std.specs.Str.Parse.{AllDigits, IsNumeral, digits_value}
 use Rattle.std.specs.Fmt.{decimal, signed_decimal}
 use Rattle.std.proofs.Math.Bool.{and-false}
-use Rattle.std.proofs.lemmas.Bool.{and_parts, eqb-true, false_from_ne_true, leb-true, lt-ltb, ne_eqb, not-true, true_from_ne_false}
+use Rattle.std.proofs.lemmas.Bool.{and_parts, eqb-true, false_from_ne_true, le-ltb, leb-true, lt-ltb, ne_eqb, not-true, or_from, or_parts, true_from_ne_false}
 use Rattle.std.proofs.lemmas.Bool.Decides.{nat_tests}
 use Rattle.std.proofs.lemmas.Fmt.{decimal_is_IsNumeral}
 use Rattle.std.proofs.lemmas.Str.Parse.{digit_from_value}
@@ -35,14 +35,21 @@ use Rattle.question_words.specs.declared.fault.FaultKind.TheVariants as kinds
 use Rattle.question_words.specs.Cutting.{is_word_byte}
 use Rattle.question_words.specs.Field.{field_in, field_of, field_text, offset_in, offset_of, shape_of, shape_text, sign_letter, sign_of, typed_of}
 use Rattle.question_words.specs.Laws.{IsField, IsOperand}
+use Rattle.question_words.specs.Layout.{field_named}
+use Rattle.question_words.specs.LayoutText.{begins_name, is_field_name, is_name_byte, is_taken_word}
 use Rattle.question_words.specs.Number.{literal_of, magnitude_of, numeral_of}
 use Rattle.question_words.specs.Operand.{begins_number, field_for, greatest_of, least_of, number_for, operand_of, operand_word}
 use Rattle.question_words.specs.Reading.{is_blank}
 
 -- ---- bytes of words
 
+-- a word of what names, numbers and fields are made of
+pub record IsWord (w : List ℕ) : Type 0 where
+  pub all : list_all is_word_byte w ≡ true
+  pub some : 0 < length w
+
 -- a byte of words is no other byte
-not_byte : (b c : ℕ) → is_word_byte b ≡ true → is_word_byte c ≡ false → eqb b c ≡ false
+pub not_byte : (b c : ℕ) → is_word_byte b ≡ true → is_word_byte c ≡ false → eqb b c ≡ false
 not_byte b c h e = false_from_ne_true (eqb b c) (λ t. let same : is_word_byte b ≡ is_word_byte c = ap is_word_byte (eqb-true b c t) in absurd cc)
 
 word_digit : (d : ℕ) → digit_value d < 10 → is_word_byte d ≡ true
@@ -78,6 +85,17 @@ word_shape DoubleWord Big = refl
 both : (a b : Bool) → a ≡ true → b ≡ true → (a && b) ≡ true
 both a b h e = rw (h, e) refl
 
+either_more : (a b c : Bool) → (a || b) ≡ true → (a || (b || c)) ≡ true
+either_more true b c h = refl
+either_more false true c h = refl
+either_more false false c h = let bad : false ≡ true = h in absurd cc
+
+three_parts : (a b c : Bool) → (a && b && c) ≡ true → (a ≡ true) × ((b ≡ true) × (c ≡ true))
+three_parts true true true h = (refl, (refl, refl))
+three_parts true true false h = let bad : false ≡ true = h in absurd cc
+three_parts true false c h = let bad : false ≡ true = h in absurd cc
+three_parts false b c h = let bad : false ≡ true = h in absurd cc
+
 pub word_field : (field : Field) → IsField field → list_all is_word_byte (field_text field) ≡ true
 word_field field small =
     both (is_word_byte (sign_letter field.sign)) (list_all is_word_byte (shape_text field.size field.order ++ 64 ∷ decimal field.offset)) (word_letter field.sign)
@@ -98,6 +116,28 @@ word_hex_digits (b ∷ bs) small =
     both (is_word_byte (slice_index lower_digits (b / 16))) _ (word_hex_digit (slice_index lower_digits (b / 16)) (b / 16) (IsDigits-lower_digits (b / 16) high))
     (both (is_word_byte (slice_index lower_digits (b % 16))) _ (word_hex_digit (slice_index lower_digits (b % 16)) (b % 16) (IsDigits-lower_digits (b % 16) low)) (word_hex_digits bs (λ k. small (suc k))))
 
+-- the bytes of a name
+name_word : (b : ℕ) → is_name_byte b ≡ true → is_word_byte b ≡ true
+name_word b h = either_more (is_ascii_alphanumeric b) (eqb b 95) (eqb b 64 || eqb b 45) h
+
+not_in_name : (b c : ℕ) → is_name_byte b ≡ true → is_name_byte c ≡ false → eqb b c ≡ false
+not_in_name b c h e = false_from_ne_true (eqb b c) (λ t. let same : is_name_byte b ≡ is_name_byte c = ap is_name_byte (eqb-true b c t) in absurd cc)
+
+name_no_at : (b : ℕ) → is_name_byte b ≡ true → not (eqb b 64) ≡ true
+name_no_at b h = ap not (not_in_name b 64 h refl)
+
+pub word_name : (w : List ℕ) → list_all is_name_byte w ≡ true → list_all is_word_byte w ≡ true
+word_name [] h = refl
+word_name (b ∷ bs) h =
+    let parts = and_parts (is_name_byte b) (list_all is_name_byte bs) h in
+    both (is_word_byte b) (list_all is_word_byte bs) (name_word b parts.0) (word_name bs parts.1)
+
+no_at_name : (w : List ℕ) → list_all is_name_byte w ≡ true → list_all (λ b. not (eqb b 64)) w ≡ true
+no_at_name [] h = refl
+no_at_name (b ∷ bs) h =
+    let parts = and_parts (is_name_byte b) (list_all is_name_byte bs) h in
+    both (not (eqb b 64)) (list_all (λ b. not (eqb b 64)) bs) (name_no_at b parts.0) (no_at_name bs parts.1)
+
 pub word_hex : (bs : List ℕ) → IsBytes bs → list_all is_word_byte (codes "0x" ++ encode_lower bs) ≡ true
 word_hex bs small = word_hex_digits bs small
 
@@ -117,7 +157,7 @@ no_symbol c (b ∷ bs) e all =
 
 -- ---- fields
 
-place_before : (front : List ℕ) (y : ℕ) (rest : List ℕ) → list_all (λ b. not (eqb b y)) front ≡ true → eqb y y ≡ true → position_or_len (λ b. eqb b y) (front ++ y ∷ rest) ≡ length front
+pub place_before : (front : List ℕ) (y : ℕ) (rest : List ℕ) → list_all (λ b. not (eqb b y)) front ≡ true → eqb y y ≡ true → position_or_len (λ b. eqb b y) (front ++ y ∷ rest) ≡ length front
 place_before front y rest h e =
     position_or_len_is (λ b. eqb b y) (front ++ y ∷ rest) (length front) 0 (omega (arith, length-append front (y ∷ rest)))
     (λ k inside. ap (λ b. eqb b y) (get_or-append front (y ∷ rest) 0 k inside) ∙ not-true _ (AllPass-from_list_all (λ b. not (eqb b y)) front h k 0 inside))
@@ -182,6 +222,41 @@ typed_again field small =
 
 pub field_again : (layout : List (List ℕ × Field)) (field : Field) → IsField field → field_of layout (field_text field) ≡ Ok field
 field_again layout field small = ap (field_in layout (field_text field)) (cut_field field) ∙ typed_again field small
+
+-- a name of the layout
+
+cut_nowhere : (w : List ℕ) → list_all (λ b. not (eqb b 64)) w ≡ true → cut_at 64 w ≡ None
+cut_nowhere w h =
+    let p = λ (b : ℕ). eqb b 64 in
+    let place : position_or_len p w ≡ length w =
+    position_or_len_is p w (length w) 0 (omega arith) (λ k inside. not-true _ (AllPass-from_list_all (λ b. not (eqb b 64)) w h k 0 inside)) (λ inside. absurd (omega (arith, inside))) in
+    ap (λ b. cond b (Some (before_first p w, after_first p w)) None) (le-ltb (position_or_len p w) (length w) (omega (arith, place)))
+
+begins_some : (w : List ℕ) → begins_name (slice_index w 0) ≡ true → 0 < length w
+begins_some [] h = let bad : false ≡ true = h in absurd cc
+begins_some (b ∷ bs) h = omega arith
+
+pub name_is_word : (name : List ℕ) → is_field_name name ≡ true → IsWord name
+name_is_word name h =
+    let parts = three_parts (begins_name (slice_index name 0)) (list_all is_name_byte name) (not (is_taken_word name)) h in
+    record { all = word_name name parts.1.0; some = begins_some name parts.0 }
+
+no_number : (b : ℕ) → begins_name b ≡ true → (is_ascii_digit b || eqb b 45) ≡ false
+no_number b h = grind (arith, nat_tests)
+
+-- a name is neither a number nor the argument
+pub name_begins_comparison : (name : List ℕ) → is_field_name name ≡ true → (begins_number name || bytes_eq name (codes "arg")) ≡ false
+name_begins_comparison name h =
+    let parts = three_parts (begins_name (slice_index name 0)) (list_all is_name_byte name) (not (is_taken_word name)) h in
+    or_from (begins_number name) (bytes_eq name (codes "arg")) (no_number (slice_index name 0) parts.0)
+    (or_parts (bytes_eq name (codes "arg")) (bytes_eq name (codes "bytes") || bytes_eq name (codes "in")) (not-true (is_taken_word name) parts.1.1)).0
+
+pub cut_name : (name : List ℕ) → is_field_name name ≡ true → cut_at 64 name ≡ None
+cut_name name h =
+    cut_nowhere name (no_at_name name (three_parts (begins_name (slice_index name 0)) (list_all is_name_byte name) (not (is_taken_word name)) h).1.0)
+
+pub name_again : (layout : List (List ℕ × Field)) (name : List ℕ) (field : Field) → is_field_name name ≡ true → field_named layout name ≡ Some field → field_of layout name ≡ Ok field
+name_again layout name field h found = ap (field_in layout name) (cut_name name h) ∙ ap (λ (o : Option Field). ok_or o kinds.Name) found
 
 -- ---- numbers
 
@@ -269,11 +344,6 @@ operand_again layout against (operands.Field field) fits =
     field_operand layout against field.sign (shape_text field.size field.order ++ 64 ∷ decimal field.offset)
     ∙ ap (λ (r : Result Field FaultKind). r >>= field_for against) (field_again layout field fits.0)
     ∙ ap (λ (b : Bool). cond b (Ok (operands.Field field)) (Err kinds.Sign)) fits.1
-
--- the bytes of an operand are those of words
-pub record IsWord (w : List ℕ) : Type 0 where
-  pub all : list_all is_word_byte w ≡ true
-  pub some : 0 < length w
 
 pub field_is_word : (field : Field) → IsField field → IsWord (field_text field)
 field_is_word field small = record { all = word_field field small; some = omega arith }

@@ -36,11 +36,11 @@ shape_text DoubleWord Big = codes "64be"
 abbrev pub field_text : Field → List ℕ
 field_text field = sign_letter field.sign ∷ (shape_text field.size field.order ++ 64 ∷ decimal field.offset)
 
--- the sign that a letter tells
+-- the sign of a letter
 abbrev pub sign_of : ℕ → Result Sign FaultKind
 sign_of letter = if letter == 117 then Ok Unsigned else (if letter == 105 then Ok Signed else Err kinds.Type)
 
--- the size and the order that a text tells
+-- the size and the order of a text
 abbrev pub shape_of : List ℕ → Result (Size × ByteOrder) FaultKind
 shape_of text =
     if bytes_eq text (codes "8") then Ok (Byte, Little)
@@ -70,7 +70,7 @@ typed_of (letter ∷ rest) at = do
   offset ← offset_of at
   Ok (record { size = shape.0; offset = offset; sign = sign; order = shape.1 })
 
--- the field that a word is: what is before and behind its `@`, or else the layout's field of that name
+-- the field that a word is: what is before and after its `@`, or else the layout's field of that name
 abbrev pub field_in : List (List ℕ × Field) → List ℕ → Option (List ℕ × List ℕ) → Result Field FaultKind
 field_in layout word (Some parts) = typed_of parts.0 parts.1
 field_in layout word None = ok_or (field_named layout word) kinds.Name

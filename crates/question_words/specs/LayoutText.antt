@@ -33,7 +33,7 @@ begins_name byte = is_ascii_alphabetic byte || byte == 95
 
 -- is it a word that questions have of their own?
 abbrev pub is_taken_word : List ℕ → Bool
-is_taken_word word = bytes_eq word (codes "arg") || bytes_eq word (codes "in")
+is_taken_word word = bytes_eq word (codes "arg") || (bytes_eq word (codes "bytes") || bytes_eq word (codes "in"))
 
 -- can a field have this name?
 abbrev pub is_field_name : List ℕ → Bool
@@ -48,15 +48,15 @@ abbrev pub field_parts : Option (List ℕ × List ℕ) → Result Field LineKind
 field_parts None = Err (line_kinds.Field kinds.Type)
 field_parts (Some parts) = as_line (typed_of parts.0 parts.1)
 
--- the field that is behind a name
-abbrev pub field_told : List ℕ → Result Field LineKind
-field_told text = field_parts (cut_at 64 text)
+-- the field that is after a name
+abbrev pub field_after : List ℕ → Result Field LineKind
+field_after text = field_parts (cut_at 64 text)
 
--- the name and the field of a line: its first word, and what is behind that
-abbrev pub entry_told : List ℕ → Result (List ℕ × Field) LineKind
-entry_told text =
+-- the name and the field of a line: its first word, and what is after that
+abbrev pub entry_of_line : List ℕ → Result (List ℕ × Field) LineKind
+entry_of_line text =
     if is_field_name (before_first is_blank_byte text)
-    then (field_told (trimmed (drop (position_or_len is_blank_byte text) text)) >>= λ field. Ok (before_first is_blank_byte text, field))
+    then (field_after (trimmed (drop (position_or_len is_blank_byte text) text)) >>= λ field. Ok (before_first is_blank_byte text, field))
     else Err Name
 
 -- a layout with a name more, where it hasn't that name
@@ -72,7 +72,7 @@ at_line number (Err kind) = Err (number, kind)
 abbrev pub with_line : List (List ℕ × Field) → ℕ → List ℕ → Result (List (List ℕ × Field)) (ℕ × LineKind)
 with_line layout number line =
     if length (trimmed (uncommented line)) == 0 then Ok layout
-    else at_line number (entry_told (trimmed (uncommented line)) >>= with_entry layout)
+    else at_line number (entry_of_line (trimmed (uncommented line)) >>= with_entry layout)
 
 -- a layout with what these lines have, of which so many are before
 abbrev pub with_lines : List (List ℕ × Field) → ℕ → List (List ℕ) → Result (List (List ℕ × Field)) (ℕ × LineKind)

@@ -5,6 +5,7 @@ pub mod Number
 pub mod Field
 pub mod Operand
 pub mod Condition
+pub mod Within
 pub mod Reading
 pub mod LayoutText
 pub mod Printing

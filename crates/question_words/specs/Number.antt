@@ -15,12 +15,12 @@ numeral_of radix text =
     then (if nat_lt (digits_value radix text) (2 ^ 64) then Ok (digits_value radix text) else Err Range)
     else Err Number)
 
--- a number without a sign: hexadecimal behind `0x`, else decimal
+-- a number without a sign: hexadecimal after `0x`, else decimal
 abbrev pub magnitude_of : List ℕ → Result ℕ FaultKind
 magnitude_of text =
     if slice_index text 0 == 48 && slice_index text 1 == 120 then numeral_of 16 (drop 2 text) else numeral_of 10 text
 
--- a number: decimal behind a `-`, or one without a sign
+-- a number: decimal after a `-`, or one without a sign
 abbrev pub literal_of : List ℕ → Result ℤ FaultKind
 literal_of text =
     if slice_index text 0 == 45 then (numeral_of 10 (drop 1 text) >>= λ n. Ok (neg_ℤ (pos n)))

@@ -86,7 +86,7 @@ operand_word (operands.Number number) = signed_decimal number
 operand_word operands.Argument = codes "arg"
 operand_word (operands.Field field) = field_text field
 
--- the operand that a word is, behind a field and a comparison: a number of the field's type, the argument, or a field
+-- the operand that a word is, after a field and a comparison: a number of the field's type, the argument, or a field
 abbrev pub operand_of : List (List ℕ × Field) → Field → List ℕ → Result Operand FaultKind
 operand_of layout against word =
     if begins_number word then (literal_of word >>= number_for against)

@@ -1,14 +1,14 @@
 //! How a text is cut into words.
 
-ghost use Rattle.std.specs.Prelude.{◌≡◌, ◌<◌, ◌≤◌, true, not, length, take, drop, position, slice_index, IfSome};
+ghost use Rattle.std.specs.Prelude.{◌≡◌, ◌<◌, ◌≤◌, ◌==◌, ◌&&◌, true, not, length, take, drop, position, slice_index, IfSome};
 ghost use Rattle.std.specs.List.{position_or_len};
-ghost use Rattle.question_words.specs.Cutting.{is_word_byte, is_pair, width};
+ghost use Rattle.question_words.specs.Cutting.{is_word_byte, is_pair, quoted_width, symbol_width, width};
 
-/// The first word of a text, and the text behind it. A blank is a word too.
+/// The first word of a text, and the text after it. A blank is a word too.
 pub(crate) fn first_word(text: &[u8]) -> (&[u8], &[u8])
     requires { 0 < length text.now }
     ensures word { result.0.now ≡ take (width text.now) text.now }
-    ensures behind { result.1.now ≡ drop (width text.now) text.now }
+    ensures rest { result.1.now ≡ drop (width text.now) text.now }
     ensures shorter { length result.1.now < length text.now }
 {
     text.split_at(word_bytes(text))
@@ -23,10 +23,48 @@ fn word_bytes(text: &[u8]) -> usize
 {
     if is_in_word(text[0]) {
         name_bytes(text)
-    } else if begins_with_pair(text) {
-        2
+    } else if text[0] == b'"' {
+        quoted_bytes(text)
     } else {
+        symbol_bytes(text)
+    }
+}
+
+/// How many bytes a text in quotes has, with them.
+fn quoted_bytes(text: &[u8]) -> usize
+    requires { 0 < length text.now }
+    ensures value { result ≡ quoted_width text.now }
+    ensures some { 0 < result }
+    ensures within { result ≤ length text.now }
+{
+    let inside = &text[1..];
+    match quote_at(inside) {
+        Some(at) => at + 2,
+        None => text.len(),
+    }
+}
+
+/// The first quote.
+fn quote_at(text: &[u8]) -> Option<usize>
+    ensures value { result ≡ position (λ byte. byte == 34) text.now }
+    ensures within { IfSome result (λ at. at < length text.now) }
+{
+    text.iter().position(|byte| *byte == b'"')
+}
+
+/// How many bytes a word has that begins with no byte of names.
+fn symbol_bytes(text: &[u8]) -> usize
+    requires { 0 < length text.now }
+    ensures value { result ≡ symbol_width (slice_index text.now 0) (slice_index text.now 1) (slice_index text.now 2) }
+    ensures some { 0 < result }
+    ensures within { result ≤ length text.now }
+{
+    if !begins_with_pair(text) {
         1
+    } else if begins_with_dot_before_equals(text) {
+        3
+    } else {
+        2
     }
 }
 
@@ -57,11 +95,19 @@ fn begins_with_pair(text: &[u8]) -> bool
         text,
         [b'&', b'&', ..]
             | [b'|', b'|', ..]
+            | [b'.', b'.', ..]
             | [b'=', b'=', ..]
             | [b'!', b'=', ..]
             | [b'<', b'=', ..]
             | [b'>', b'=', ..]
     )
+}
+
+/// Is a dot first, and `=` third, as in `..=`?
+fn begins_with_dot_before_equals(text: &[u8]) -> bool
+    ensures { result ≡ (slice_index text.now 0 == 46 && slice_index text.now 2 == 61) }
+{
+    matches!(text, [b'.', _, b'=', ..])
 }
 
 /// Is it a byte of names, numbers and fields?

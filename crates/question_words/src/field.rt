@@ -42,7 +42,7 @@ pub(crate) fn typed(kind: &[u8], at: &[u8]) -> Result<Field, FaultKind>
     })
 }
 
-/// The sign that a type's first letter tells.
+/// The sign of a type's first letter.
 fn sign(letter: u8) -> Result<Sign, FaultKind>
     ensures { result ≡ sign_of letter }
 {
@@ -53,7 +53,7 @@ fn sign(letter: u8) -> Result<Sign, FaultKind>
     }
 }
 
-/// The size and the order of bytes that a type's other letters tell.
+/// The size and the order of bytes of a type's other letters.
 fn shape(text: &[u8]) -> Result<(Size, ByteOrder), FaultKind>
     ensures { result ≡ shape_of text.now }
 {

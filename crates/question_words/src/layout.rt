@@ -14,7 +14,7 @@ pub struct NamedField {
     pub field: Field,
 }
 
-/// The names by which a question can speak of fields.
+/// The names by which a question can speak of fields. A name that no field can have, as `arg`, is of no use.
 #[derive(Drop)]
 pub struct Layout {
     /// Each name with its field. Of two that are the same the first counts.

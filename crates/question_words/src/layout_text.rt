@@ -5,7 +5,7 @@ ghost use Rattle.std.specs.List.{list_all};
 ghost use Rattle.std.specs.Result.{result_map_both};
 ghost use Rattle.common_definitions.specs.Gives.{Gives};
 ghost use Rattle.question_words.specs.Layout.{entries};
-ghost use Rattle.question_words.specs.LayoutText.{begins_name, entry_told, field_told, is_field_name, is_taken_word, is_name_byte, layout_fault_of, layout_of, with_line};
+ghost use Rattle.question_words.specs.LayoutText.{begins_name, entry_of_line, field_after, is_field_name, is_taken_word, is_name_byte, layout_fault_of, layout_of, with_line};
 ghost use Rattle.question_words.specs.declared.layout_text.LayoutFault.TheVariants.{Memory};
 
 use crate::fault::FaultKind;
@@ -20,13 +20,13 @@ use thiserror::Error;
 #[derive(Clone, Copy, Debug, PartialEq, Eq, Error)]
 pub enum LineKind {
     /// Its first word is no name.
-    #[error("a name is expected: letters, digits and _, no digit first, and neither arg nor in")]
+    #[error("a name is expected: letters, digits and _, no digit first, and none of arg, bytes and in")]
     Name,
     /// An earlier line has its name.
     #[error("an earlier line has the same name")]
     Twice,
-    /// Behind the name there is no field.
-    #[error("behind the name a field is expected, as in u32@8: {0}")]
+    /// After the name there is no field.
+    #[error("after the name a field is expected, as in u32@8: {0}")]
     Field(FaultKind),
 }
 
@@ -77,10 +77,10 @@ pub fn read_layout(alloc: Global, text: &[u8]) -> Result<Layout, LayoutFault>
     let mut number = 0;
     let mut rest = text;
     while !rest.is_empty() {
-        let (line, behind) = first_line(rest);
+        let (line, after) = first_line(rest);
         number += 1;
         layout = add_line(alloc, layout, number, line)?;
-        rest = behind;
+        rest = after;
     }
     Ok(layout)
 }
@@ -126,7 +126,7 @@ fn with_field(
 
 /// The name and the field of a line.
 fn named(text: &[u8]) -> Result<(&[u8], Field), LineKind>
-    ensures { result_map_both (λ named. (named.0.now, named.1)) (λ kind. kind) result ≡ entry_told text.now }
+    ensures { result_map_both (λ named. (named.0.now, named.1)) (λ kind. kind) result ≡ entry_of_line text.now }
 {
     let (name, rest) = word(text);
     if !is_name(name) {
@@ -136,9 +136,9 @@ fn named(text: &[u8]) -> Result<(&[u8], Field), LineKind>
     Ok((name, field))
 }
 
-/// The field that is behind a name.
+/// The field that is after a name.
 fn described(text: &[u8]) -> Result<Field, LineKind>
-    ensures { result ≡ field_told text.now }
+    ensures { result ≡ field_after text.now }
 {
     let Some((kind, at)) = cut(text, b'@') else {
         return Err(LineKind::Field(FaultKind::Type));
@@ -177,5 +177,5 @@ fn has_name_bytes(word: &[u8]) -> bool
 fn is_taken(word: &[u8]) -> bool
     ensures { result ≡ is_taken_word word.now }
 {
-    matches!(word, b"arg" | b"in")
+    matches!(word, b"arg" | b"bytes" | b"in")
 }

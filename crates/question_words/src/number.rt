@@ -6,7 +6,7 @@ ghost use Rattle.common_definitions.specs.Below.{below};
 
 use crate::fault::FaultKind;
 
-/// The number that a word writes: decimal behind a `-`, or one without a sign.
+/// The number that a word writes: decimal after a `-`, or one without a sign.
 pub(crate) fn number(text: &[u8]) -> Result<i128, FaultKind>
     ensures { result ≡ literal_of text.now }
 {
@@ -16,7 +16,7 @@ pub(crate) fn number(text: &[u8]) -> Result<i128, FaultKind>
     }
 }
 
-/// A number without a sign: hexadecimal behind `0x`, else decimal.
+/// A number without a sign: hexadecimal after `0x`, else decimal.
 fn magnitude(text: &[u8]) -> Result<u64, FaultKind>
     ensures { result ≡ magnitude_of text.now }
 {
@@ -43,7 +43,7 @@ fn numeral(text: &[u8], radix: u32) -> Result<u64, FaultKind>
     value.ok_or(FaultKind::Range)
 }
 
-/// The number with one more digit behind it, unless it is 2^64 or more.
+/// The number with one more digit at its end, unless it is 2^64 or more.
 fn with_digit(value: Option<u64>, radix: u32, digit: u32) -> Option<u64>
     requires { 2 ≤ radix }
     ensures { (n : ℕ) → value ≡ below (2 ^ 64) n → result ≡ below (2 ^ 64) (n * radix + digit) }

@@ -13,7 +13,7 @@ use crate::number::number;
 use instruction_set::Size;
 use record_questions::{Comparison, Field, Operand, Sign};
 
-/// The operand that a word is, behind a field and a comparison.
+/// The operand that a word is, after a field and a comparison.
 pub(crate) fn operand(layout: &Layout, against: Field, word: &[u8]) -> Result<Operand, FaultKind>
     ensures { result ≡ operand_of (entries layout.now) against word.now }
 {
@@ -21,7 +21,7 @@ pub(crate) fn operand(layout: &Layout, against: Field, word: &[u8]) -> Result<Op
         number_of_type(against, number(word)?)
     } else if matches!(word, b"arg") {
         Ok(Operand::Argument)
-    } else if is_name(word) {
+    } else if begins_word(word) {
         field_of_sign(against, field::field(layout, word)?)
     } else {
         Err(FaultKind::Operand)
@@ -88,7 +88,7 @@ fn greatest(field: Field) -> i128
 }
 
 /// Does a word begin as numbers do?
-fn is_number(word: &[u8]) -> bool
+pub(crate) fn is_number(word: &[u8]) -> bool
     ensures { result ≡ begins_number word.now }
 {
     match word {
@@ -97,8 +97,8 @@ fn is_number(word: &[u8]) -> bool
     }
 }
 
-/// Is a word made of what names and fields are made of?
-pub(crate) fn is_name(word: &[u8]) -> bool
+/// Does a word begin as names and fields do?
+pub(crate) fn begins_word(word: &[u8]) -> bool
     ensures { result ≡ is_word_byte (slice_index word.now 0) }
 {
     match word {

@@ -2,18 +2,19 @@
 
 ghost use Rattle.std.specs.Prelude.{◌≡◌, ◌++◌, IfOk, OnOk};
 ghost use Rattle.std.specs.String.{string_bytes};
-ghost use Rattle.question_words.specs.Condition.{said, Bytes};
+ghost use Rattle.question_words.specs.Condition.{said, Compare};
 ghost use Rattle.question_words.specs.Field.{field_text};
 ghost use Rattle.question_words.specs.Operand.{operand_word};
-ghost use Rattle.question_words.specs.Printing.{condition_text, part_text};
+ghost use Rattle.question_words.specs.Printing.{bytes_text, condition_text, part_text};
 
 use crate::field::{letter, shape_letters};
 use crate::operand::comparison_word;
-use record_questions::{Field, Operand, Predicate};
+use record_questions::{Comparison, Field, Operand, Predicate};
 use std::alloc::{AllocError, Global};
 
-/// The text of a condition: fields by their types and offsets, numbers decimal, and parentheses around each `&&` and `||` inside another
-/// condition. It is read back as the same if its numbers are of the types that they are compared with, and it has at most 4096 bytes.
+/// The text of a condition: fields by their types and offsets, numbers decimal, `!=` for bytes that aren't to be there, and parentheses
+/// around each `&&` and `||` inside another condition and around what is after a `!`. It is read back as the same where numbers fit
+/// their fields, bytes are one or more, and the text has at most `MOST_BYTES` bytes.
 ///
 /// # Errors
 ///
@@ -53,14 +54,8 @@ fn push_part(out: &mut String, condition: &Predicate) -> Result<(), AllocError>
             field,
             comparison,
             operand,
-        } => {
-            push_field(out, *field)?;
-            out.push_str(" ")?;
-            out.push_str(comparison_word(*comparison))?;
-            out.push_str(" ")?;
-            push_operand(out, *operand)
-        }
-        Predicate::Bytes { offset, bytes } => push_bytes(out, *offset, bytes),
+        } => push_comparison(out, *field, *comparison, *operand),
+        Predicate::Bytes { offset, bytes } => push_bytes(out, *offset, " == 0x", bytes),
         Predicate::And(first, second) => {
             out.push_str("(")?;
             push_part(out, first)?;
@@ -75,11 +70,34 @@ fn push_part(out: &mut String, condition: &Predicate) -> Result<(), AllocError>
             push_part(out, second)?;
             out.push_str(")")
         }
-        Predicate::Not(condition) => {
-            out.push_str("!")?;
-            push_part(out, condition)
-        }
+        Predicate::Not(condition) => match &**condition {
+            Predicate::Bytes { offset, bytes } => push_bytes(out, *offset, " != 0x", bytes),
+            Predicate::And(..) | Predicate::Or(..) => {
+                out.push_str("!")?;
+                push_part(out, condition)
+            }
+            _ => {
+                out.push_str("!(")?;
+                push_part(out, condition)?;
+                out.push_str(")")
+            }
+        },
     }
+}
+
+fn push_comparison(
+    out: &mut String,
+    field: Field,
+    comparison: Comparison,
+    operand: Operand,
+) -> Result<(), AllocError>
+    ensures { OnOk result (string_bytes out.new ≡ string_bytes out.old ++ part_text (Compare field comparison operand)) }
+{
+    push_field(out, field)?;
+    out.push_str(" ")?;
+    out.push_str(comparison_word(comparison))?;
+    out.push_str(" ")?;
+    push_operand(out, operand)
 }
 
 fn push_field(out: &mut String, field: Field) -> Result<(), AllocError>
@@ -106,10 +124,16 @@ fn push_operand(out: &mut String, operand: Operand) -> Result<(), AllocError>
     }
 }
 
-fn push_bytes(out: &mut String, offset: u16, bytes: &[u8]) -> Result<(), AllocError>
-    ensures { OnOk result (string_bytes out.new ≡ string_bytes out.old ++ part_text (Bytes offset bytes.now)) }
+fn push_bytes(
+    out: &mut String,
+    offset: u16,
+    comparison: &str,
+    bytes: &[u8],
+) -> Result<(), AllocError>
+    ensures { OnOk result (string_bytes out.new ≡ string_bytes out.old ++ bytes_text offset comparison.now bytes.now) }
 {
     let digits = hex::encode(*out.allocator(), bytes)?;
-    write!(out, "bytes@{offset} == 0x")?;
+    write!(out, "bytes@{offset}")?;
+    out.push_str(comparison)?;
     out.push_str(digits.as_str())
 }

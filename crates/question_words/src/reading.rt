@@ -44,9 +44,9 @@ fn read_text(alloc: Global, layout: &Layout, text: &[u8]) -> Result<Predicate, R
     let mut rest = text;
     while !rest.is_empty() {
         let column = text.len() - rest.len() + 1;
-        let (word, behind) = first_word(rest);
+        let (word, after) = first_word(rest);
         reading = step(alloc, layout, column, word, reading)?;
-        rest = behind;
+        rest = after;
     }
     finish(alloc, text.len() + 1, reading)
 }

@@ -6,17 +6,17 @@ ghost use Rattle.question_words.specs.steps.Views.{open_view, opens};
 use record_questions::Predicate;
 use std::alloc::AllocError;
 
-/// What is open: it takes the condition behind it.
+/// What is open: it takes the condition after it.
 #[derive(Drop)]
 pub(crate) enum Open {
     /// A `!`.
-    Opposite,
+    Not,
     /// A `(`.
     Parenthesis,
     /// A condition and an `&&`.
-    Both(Predicate),
+    And(Predicate),
     /// A condition and an `||`.
-    Either(Predicate),
+    Or(Predicate),
 }
 
 /// Opens one more.

@@ -1,19 +1,24 @@
 //! What is read so far, and what a word makes of it.
 
-ghost use Rattle.std.specs.Prelude.{◌≡◌, ◌∷◌, IfOk};
+ghost use Rattle.std.specs.Prelude.{◌≡◌, ◌∷◌, ◌||◌, codes, IfOk};
+ghost use Rattle.std.specs.Str.{bytes_eq};
 ghost use Rattle.std.specs.Result.{result_map_both};
 ghost use Rattle.common_definitions.specs.Gives.{Gives};
+ghost use Rattle.text_lines.specs.Cut.{cut_at};
 ghost use Rattle.question_words.specs.Condition.{said};
 ghost use Rattle.question_words.specs.Fault.{at, fault_of};
 ghost use Rattle.question_words.specs.Layout.{entries};
-ghost use Rattle.question_words.specs.Reading.{all_of, bytes_condition, bytes_of, bytes_written, closed as closed_at, finished, is_blank, is_there, joined as joined_at, next as next_of, settled, step as step_of, subject_of, wanted as wanted_at, with_either, Wanted as AtWanted};
+ghost use Rattle.question_words.specs.Operand.{begins_number};
+ghost use Rattle.question_words.specs.Reading.{all_of, bytes_before_quote, bytes_condition, bytes_of, bytes_written, closed as closed_at, compared as compared_of, finished, is_blank, is_there, joined as joined_at, next as next_of, settled, step as step_of, subject_in, subject_of, wanted as wanted_at, with_or as with_or_of, Wanted as AtWanted};
 ghost use Rattle.question_words.specs.steps.Views.{open_view, opens, reading_view, stage_view};
 
 use crate::fault::{FaultKind, ReadFault, fault, located};
 use crate::field::{field, offset};
 use crate::layout::Layout;
-use crate::operand::{comparison, is_name, operand};
+use crate::operand::{begins_word, comparison, is_number};
 use crate::stack::{Open, put, take};
+use crate::text::against;
+use crate::within::{Within, lacking, next_within};
 use hex::FromHexError;
 use record_questions::{Comparison, Field, Predicate};
 use std::alloc::{AllocError, Global};
@@ -24,14 +29,16 @@ use text_lines::cut;
 pub(crate) enum Stage {
     /// A condition is wanted.
     Wanted,
-    /// A comparison is wanted behind this field.
+    /// A comparison is wanted after this field.
     Compared(Field),
-    /// An operand is wanted behind this field and comparison.
+    /// An operand is wanted after this field and comparison.
     Against(Field, Comparison),
-    /// `==` or `!=` is wanted behind the offset of bytes.
+    /// `==` or `!=` is wanted after the offset of bytes.
     BytesCompared(u16),
     /// The bytes are wanted, which are to be there or not.
     AgainstBytes(u16, bool),
+    /// A part of a range or a set is wanted after this field and `in`.
+    In(Field, Within),
     /// A condition is whole, but for what is open.
     Whole(Predicate),
 }
@@ -45,7 +52,7 @@ pub(crate) struct Reading {
     pub(crate) before: Vec<Open>,
 }
 
-/// What is read behind one more word.
+/// What is read after one more word.
 pub(crate) fn step(
     alloc: Global,
     layout: &Layout,
@@ -80,19 +87,9 @@ fn next(
 {
     match stage {
         Stage::Wanted => wanted(layout, column, word, before),
-        Stage::Compared(field) => {
-            let comparison = located(column, comparison(word))?;
-            let stage = Stage::Against(field, comparison);
-            Ok(Reading { stage, before })
-        }
+        Stage::Compared(field) => compared(column, word, field, before),
         Stage::Against(field, comparison) => {
-            let operand = located(column, operand(layout, field, word))?;
-            let condition = Predicate::Compare {
-                field,
-                comparison,
-                operand,
-            };
-            Ok(settle(alloc, before, condition)?)
+            against(alloc, layout, column, word, field, comparison, before)
         }
         Stage::BytesCompared(offset) => {
             let there = located(column, there(word))?;
@@ -104,6 +101,7 @@ fn next(
             let condition = bytes_predicate(alloc, offset, there, bytes)?;
             Ok(settle(alloc, before, condition)?)
         }
+        Stage::In(field, part) => next_within(alloc, layout, column, word, field, part, before),
         Stage::Whole(condition) => joined(alloc, column, word, condition, before),
     }
 }
@@ -119,7 +117,7 @@ fn wanted(
     ensures { Gives fault_of reading_view result (wanted_at (entries layout.now) column word.now (opens before.items)) }
 {
     match word {
-        b"!" => Ok(opened(before, Open::Opposite)?),
+        b"!" => Ok(opened(before, Open::Not)?),
         b"(" => Ok(opened(before, Open::Parenthesis)?),
         _ => {
             let stage = located(column, subject(layout, word))?;
@@ -128,7 +126,7 @@ fn wanted(
     }
 }
 
-/// A condition is wanted behind what is opened.
+/// A condition is wanted after what is opened.
 fn opened(before: Vec<Open>, part: Open) -> Result<Reading, AllocError>
     ensures { IfOk result (λ reading. reading_view reading
         ≡ record { stage = AtWanted; before = open_view part ∷ opens before.items }) }
@@ -145,13 +143,48 @@ fn opened(before: Vec<Open>, part: Open) -> Result<Reading, AllocError>
 fn subject(layout: &Layout, word: &[u8]) -> Result<Stage, FaultKind>
     ensures { result_map_both stage_view (λ kind. kind) result ≡ subject_of (entries layout.now) word.now }
 {
-    if !is_name(word) {
-        return Err(FaultKind::Condition);
+    if is_on_the_right(word) {
+        Err(FaultKind::Left)
+    } else if begins_word(word) {
+        named(layout, word)
+    } else {
+        Err(FaultKind::Condition)
     }
+}
+
+/// Is it a number, or the argument?
+fn is_on_the_right(word: &[u8]) -> bool
+    ensures { result ≡ (begins_number word.now || bytes_eq word.now (codes "arg")) }
+{
+    is_number(word) || matches!(word, b"arg")
+}
+
+/// The field or the bytes that a word says.
+fn named(layout: &Layout, word: &[u8]) -> Result<Stage, FaultKind>
+    ensures { result_map_both stage_view (λ kind. kind) result ≡ subject_in (entries layout.now) word.now (cut_at 64 word.now) }
+{
     if let Some((b"bytes", at)) = cut(word, b'@') {
         return Ok(Stage::BytesCompared(offset(at)?));
     }
     Ok(Stage::Compared(field(layout, word)?))
+}
+
+/// After a field: a comparison, or `in`.
+#[tactic(auto, unfolding(crate::specs::Reading::compared))]
+fn compared(
+    column: usize,
+    word: &[u8],
+    field: Field,
+    before: Vec<Open>,
+) -> Result<Reading, ReadFault>
+    ensures { Gives fault_of reading_view result (compared_of column word.now field (opens before.items)) }
+{
+    let stage = if matches!(word, b"in") {
+        Stage::In(field, Within::Begun)
+    } else {
+        Stage::Against(field, located(column, comparison(word))?)
+    };
+    Ok(Reading { stage, before })
 }
 
 /// Are bytes to be there, or not?
@@ -166,12 +199,24 @@ fn there(word: &[u8]) -> Result<bool, FaultKind>
 }
 
 /// The bytes that a word is.
-fn bytes(alloc: Global, column: usize, word: &[u8]) -> Result<Vec<u8>, ReadFault>
+pub(crate) fn bytes(alloc: Global, column: usize, word: &[u8]) -> Result<Vec<u8>, ReadFault>
     ensures { Gives fault_of (λ bytes. bytes.items) result (at column (bytes_of word.now)) }
 {
     match word {
+        [b'"', inside @ ..] => quoted(alloc, column, inside),
         [b'0', b'x', digits @ ..] => written(alloc, column, digits),
         _ => Err(fault(column, FaultKind::Bytes)),
+    }
+}
+
+/// The bytes before the second quote, one or more.
+fn quoted(alloc: Global, column: usize, inside: &[u8]) -> Result<Vec<u8>, ReadFault>
+    ensures { Gives fault_of (λ bytes. bytes.items) result (at column (bytes_before_quote (cut_at 34 inside.now))) }
+{
+    match cut(inside, b'"') {
+        Some((text, _)) if !text.is_empty() => Ok(Vec::from_slice(alloc, text)?),
+        Some(_) => Err(fault(column, FaultKind::Bytes)),
+        None => Err(fault(column, FaultKind::Quote)),
     }
 }
 
@@ -190,7 +235,7 @@ fn written(alloc: Global, column: usize, digits: &[u8]) -> Result<Vec<u8>, ReadF
 }
 
 /// The condition that a record has these bytes, or hasn't.
-fn bytes_predicate(
+pub(crate) fn bytes_predicate(
     alloc: Global,
     offset: u16,
     there: bool,
@@ -205,7 +250,7 @@ fn bytes_predicate(
     Ok(Predicate::Not(Box::new(alloc, condition)?))
 }
 
-/// A condition is whole: an `&&`, an `||` or a `)` is behind it.
+/// A condition is whole: an `&&`, an `||` or a `)` is after it.
 #[tactic(auto, unfolding(crate::specs::Reading::joined))]
 fn joined(
     alloc: Global,
@@ -217,10 +262,10 @@ fn joined(
     ensures { Gives fault_of reading_view result (joined_at column word.now (said condition) (opens before.items)) }
 {
     match word {
-        b"&&" => Ok(opened(before, Open::Both(condition))?),
+        b"&&" => Ok(opened(before, Open::And(condition))?),
         b"||" => {
             let (condition, before) = with_or(alloc, before, condition)?;
-            Ok(opened(before, Open::Either(condition))?)
+            Ok(opened(before, Open::Or(condition))?)
         }
         b")" => {
             let (condition, before) = with_or(alloc, before, condition)?;
@@ -247,15 +292,19 @@ fn closed(
 }
 
 /// A condition is whole: a `!` and an `&&` before it take it.
-fn settle(alloc: Global, before: Vec<Open>, condition: Predicate) -> Result<Reading, AllocError>
+pub(crate) fn settle(
+    alloc: Global,
+    before: Vec<Open>,
+    condition: Predicate,
+) -> Result<Reading, AllocError>
     ensures { IfOk result (λ reading. reading_view reading ≡ settled (opens before.items) (said condition)) }
 {
     let mut before = before;
     let mut whole = condition;
     while let Some(part) = take(&mut before) {
         match part {
-            Open::Opposite => whole = Predicate::Not(Box::new(alloc, whole)?),
-            Open::Both(first) => {
+            Open::Not => whole = Predicate::Not(Box::new(alloc, whole)?),
+            Open::And(first) => {
                 let first = Box::new(alloc, first)?;
                 whole = Predicate::And(first, Box::new(alloc, whole)?);
             }
@@ -277,11 +326,11 @@ fn with_or(
     before: Vec<Open>,
     condition: Predicate,
 ) -> Result<(Predicate, Vec<Open>), AllocError>
-    ensures { IfOk result (λ whole. (said whole.0, opens whole.1.items) ≡ with_either (opens before.items) (said condition)) }
+    ensures { IfOk result (λ whole. (said whole.0, opens whole.1.items) ≡ with_or_of (opens before.items) (said condition)) }
 {
     let mut before = before;
     match take(&mut before) {
-        Some(Open::Either(first)) => {
+        Some(Open::Or(first)) => {
             let first = Box::new(alloc, first)?;
             Ok((Predicate::Or(first, Box::new(alloc, condition)?), before))
         }
@@ -305,6 +354,7 @@ pub(crate) fn finish(alloc: Global, column: usize, reading: Reading) -> Result<P
         Stage::Against(..) => FaultKind::Operand,
         Stage::BytesCompared(_) => FaultKind::BytesComparison,
         Stage::AgainstBytes(..) => FaultKind::Bytes,
+        Stage::In(_, part) => lacking(part),
     };
     Err(fault(column, kind))
 }
@@ -316,7 +366,7 @@ fn all(
     before: Vec<Open>,
     condition: Predicate,
 ) -> Result<Predicate, ReadFault>
-    ensures { Gives fault_of said result (all_of column (with_either (opens before.items) (said condition))) }
+    ensures { Gives fault_of said result (all_of column (with_or_of (opens before.items) (said condition))) }
 {
     let (condition, before) = with_or(alloc, before, condition)?;
     only(column, before, condition)

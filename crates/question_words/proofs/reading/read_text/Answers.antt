@@ -23,14 +23,14 @@ returns-in_err-reading c =
     let p = err_from_is_err_and c.from_residual.result c.from_residual.ensures.1 in
     rw (p.1, p.2)
     (word_refused (entries c.args.layout.now) (length c.args.text.now) c.loop-rest.rest.now c.first_word.result.0.now c.first_word.result.1.now (reading_view c.loop-rest.reading) c.in_err-reading.field-0.0 _
-    c.first_word.ensures.word c.first_word.ensures.behind c.first_word.ensures.shorter c.loop-rest.invariant.same c.in_err-reading.ensures)
+    c.first_word.ensures.word c.first_word.ensures.rest c.first_word.ensures.shorter c.loop-rest.invariant.same c.in_err-reading.ensures)
 
 pub loop-rest-preserved : goal.loop-rest-preserved
 loop-rest-preserved c = record {
   within = omega (arith, c.first_word.ensures.shorter, c.loop-rest.invariant.within);
   same =
       word_taken (entries c.args.layout.now) (length c.args.text.now) c.loop-rest.rest.now c.first_word.result.0.now c.first_word.result.1.now (reading_view c.loop-rest.reading) (reading_view c.in_ok-reading.reading)
-      c.first_word.ensures.word c.first_word.ensures.behind c.first_word.ensures.shorter c.in_ok-reading.ensures
+      c.first_word.ensures.word c.first_word.ensures.rest c.first_word.ensures.shorter c.in_ok-reading.ensures
       ∙ c.loop-rest.invariant.same;
 }
 
