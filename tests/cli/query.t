@@ -113,7 +113,7 @@ A text with a mark of lines stands between quotes, one that isn't UTF-8 in hexad
   one,two,three,four,five
   "a, b","say ""x""",0xff782020202020202020202020202020,\x1b[1my,0x612c20
   $ zscli query odd.img --zone 0 --layout odd.layout --where 'u8@0 == 97' --select two,four --json
-  [{"two":"say \"x\"","four":"\\x1b[1my"}]
+  [{"two":"say \"x\"","four":"\u001b[1my"}]
 
 How a question is understood, and what asking it takes.
 

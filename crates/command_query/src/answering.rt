@@ -3,14 +3,14 @@
 use crate::columns::Column;
 use crate::commands::AskedDevice;
 use crate::parts::Part;
-use crate::refused::refused;
-use crate::rows::{Form, Printed, cells_of};
+use crate::records::push_rows;
+use crate::rows::{Form, Printed};
 use crate::source::SourceBlocks;
 use crate::tallied::answer_tallies;
 use crate::wanted::Wanted;
 use command_files::{Failure, printed};
-use emit_append::{UnpackFault, blocks_needed, unpack};
-use nvme_entry::{BlockCount, MOST_BLOCKS, MOST_TRANSFER, ProgramSlot, RunCommand};
+use emit_append::blocks_needed;
+use nvme_entry::{BlockCount, MOST_BLOCKS, MOST_TRANSFER, PROGRAM_SLOTS, ProgramSlot, RunCommand};
 use program_interface::BlockSize;
 use record_questions::Question;
 use std::alloc::{AllocError, Global};
@@ -19,7 +19,7 @@ use zone_state::{Action, ZoneState};
 
 /// How a question is asked.
 #[derive(Drop)]
-pub(crate) struct Plan<'l> {
+pub(crate) struct Plan {
     /// The size of a block.
     pub(crate) block: BlockSize,
     /// The blocks that are asked about.
@@ -27,7 +27,7 @@ pub(crate) struct Plan<'l> {
     /// The argument of each run.
     pub(crate) argument: u32,
     /// What is printed.
-    pub(crate) wanted: Wanted<'l>,
+    pub(crate) wanted: Wanted,
     /// The question, over the records of the last program.
     pub(crate) question: Question,
     /// How many records of a block it is about.
@@ -42,7 +42,16 @@ pub(crate) struct Plan<'l> {
     pub(crate) blocks_of_run: u32,
 }
 
-/// The most bytes of blocks that a run goes over: its records are in memory at once.
+/// Some neighbouring blocks of those that are asked about.
+#[derive(Clone, Copy)]
+pub(crate) struct Stretch {
+    /// How many of them come before.
+    pub(crate) before: u32,
+    /// How many these are.
+    pub(crate) blocks: u32,
+}
+
+/// The most bytes of blocks that a run goes over: what it appended is in memory at once.
 const MOST_OF_RUN: u32 = 16 * 1024 * 1024;
 
 /// How many blocks a run goes over. Where rows come of several programs it is one, so that they come in the order of the blocks. Else it
@@ -67,17 +76,20 @@ pub(crate) fn blocks_of_run(
     blocks.max(1)
 }
 
-impl Plan<'_> {
+impl Plan {
     /// How often each program runs.
     pub(crate) fn times(&self) -> u32 {
         self.source.blocks.div_ceil(self.blocks_of_run.max(1))
     }
 
-    /// How many blocks come before those of a time, and how many these are.
-    pub(crate) fn blocks_at(&self, time: u32) -> (u32, u32) {
+    /// The blocks of a time.
+    pub(crate) fn stretch(&self, time: u32) -> Stretch {
         let before = time.saturating_mul(self.blocks_of_run);
         let left = self.source.blocks.saturating_sub(before);
-        (before, left.min(self.blocks_of_run))
+        Stretch {
+            before,
+            blocks: left.min(self.blocks_of_run),
+        }
     }
 
     /// How many runs there are.
@@ -94,26 +106,45 @@ impl Plan<'_> {
 pub(crate) fn answer<'a, O: Write>(
     alloc: Global,
     asked: &mut AskedDevice,
-    plan: &Plan<'_>,
+    plan: &Plan,
     form: Form,
     out: &mut O,
 ) -> Result<(), Failure<'a>> {
     open(alloc, asked, plan)?;
+    load_all(alloc, asked, plan)?;
+    let mut printing = Printed::new(alloc, form);
+    match &plan.wanted {
+        Wanted::Rows(columns) => {
+            answer_rows(alloc, asked, plan, columns.as_slice(), &mut printing, out)?;
+        }
+        Wanted::Tallies(tallies) => {
+            answer_tallies(alloc, asked, plan, tallies.as_slice(), &mut printing)?;
+        }
+    }
+    printing.end()?;
+    printed(printing.print(out))
+}
+
+/// Opens the zone that is appended to, unless it is open.
+fn open<'a>(alloc: Global, asked: &mut AskedDevice, plan: &Plan) -> Result<(), Failure<'a>> {
+    if asked.state_of(plan.destination) == Some(ZoneState::Empty) {
+        return asked.send(alloc, plan.destination_lba, Action::Open);
+    }
+    Ok(())
+}
+
+/// Loads the programs, each into a slot.
+fn load_all<'a>(alloc: Global, asked: &mut AskedDevice, plan: &Plan) -> Result<(), Failure<'a>> {
     for (index, part) in plan.parts.iter().enumerate() {
         let limit = part.sizes.limit();
         asked.load(alloc, slot_of(index), limit, part.program.as_slice())?;
     }
-    match &plan.wanted {
-        Wanted::Rows(columns) => answer_rows(alloc, asked, plan, columns.as_slice(), form, out),
-        Wanted::Tallies(tallies) => {
-            answer_tallies(alloc, asked, plan, tallies.as_slice(), form, out)
-        }
-    }
+    Ok(())
 }
 
-/// The slot of a program.
+/// The slot of a program, of which there are no more than slots.
 pub(crate) fn slot_of(index: usize) -> ProgramSlot {
-    match ProgramSlot::new(index.min(7) as u32) {
+    match ProgramSlot::new(index.min(PROGRAM_SLOTS - 1) as u32) {
         Some(slot) => slot,
         None => ProgramSlot::new(0).unwrap(),
     }
@@ -123,17 +154,7 @@ pub(crate) fn slot_of(index: usize) -> ProgramSlot {
 fn counted(blocks: u32) -> BlockCount {
     match BlockCount::new(blocks) {
         Some(count) => count,
-        None => BlockCount::new(1).unwrap(),
-    }
-}
-
-/// Opens the zone that is appended to, unless it is open.
-fn open<'a>(alloc: Global, asked: &mut AskedDevice, plan: &Plan<'_>) -> Result<(), Failure<'a>> {
-    match asked.device.image().zones().get(plan.destination as usize) {
-        Some(zone) if zone.state() == ZoneState::Empty => {
-            asked.send(alloc, plan.destination_lba, Action::Open)
-        }
-        _ => Ok(()),
+        None => BlockCount::from_zero_based(0),
     }
 }
 
@@ -141,107 +162,98 @@ fn open<'a>(alloc: Global, asked: &mut AskedDevice, plan: &Plan<'_>) -> Result<(
 fn answer_rows<'a, O: Write>(
     alloc: Global,
     asked: &mut AskedDevice,
-    plan: &Plan<'_>,
-    columns: &[&Column],
-    form: Form,
+    plan: &Plan,
+    columns: &[Column],
+    printing: &mut Printed,
     out: &mut O,
 ) -> Result<(), Failure<'a>> {
-    let from = match plan.wanted.range() {
-        Some(range) => range.offset,
-        None => 0,
-    };
-    let names = names_of(alloc, columns)?;
-    let mut printing = Printed::begun(alloc, form, names.as_slice())?;
+    push_names(columns, printing)?;
+    let mut bytes = Vec::new(alloc);
     for time in 0..plan.times() {
-        let (done, blocks) = plan.blocks_at(time);
-        for (index, part) in plan.parts.iter().enumerate() {
-            let records = records_of_run(alloc, asked, plan, index, part, done, blocks)?;
-            for record in &records {
-                let cells = cells_of(alloc, columns, record.as_slice(), from)?;
-                printing.push_row(names.as_slice(), record.as_slice(), cells.as_slice())?;
-            }
-            printed(out.write_all(printing.bytes.as_slice()))?;
-            printing.bytes.clear();
+        let stretch = plan.stretch(time);
+        for index in 0..plan.parts.len() {
+            read_answer(alloc, asked, plan, index, stretch, &mut bytes)?;
+            push_rows(columns, plan, bytes.as_slice(), printing)?;
+            printed(printing.print(out))?;
         }
     }
-    printing.end()?;
-    printed(out.write_all(printing.bytes.as_slice()))
+    Ok(())
 }
 
-/// The names of columns.
-fn names_of<'l>(alloc: Global, columns: &[&'l Column]) -> Result<Vec<&'l str>, AllocError> {
-    let mut names = Vec::new(alloc);
-    for column in columns {
-        names.push(column.name.as_str())?;
+/// Adds the names of columns.
+fn push_names(columns: &[Column], printing: &mut Printed) -> Result<(), AllocError> {
+    for (index, column) in columns.iter().enumerate() {
+        printing.push_name(index, column.name.as_str())?;
     }
-    Ok(names)
+    printing.end_names()
 }
 
-/// Runs a program over so many blocks after the first ones, to its end, and reads back the records that it emitted.
-fn records_of_run<'a>(
+/// Runs a program over blocks, to its end, and reads back the blocks that it appended.
+fn read_answer<'a>(
     alloc: Global,
     asked: &mut AskedDevice,
-    plan: &Plan<'_>,
+    plan: &Plan,
     index: usize,
-    part: &Part,
-    done: u32,
-    blocks: u32,
-) -> Result<Vec<Vec<u8>>, Failure<'a>> {
-    make_room(alloc, asked, plan, blocks_needed(blocks, part.sizes))?;
-    let begin = plan.destination_lba.saturating_add(u64::from(written(asked, plan)));
-    let appended = run(alloc, asked, plan, index, done, blocks)?;
-    let mut bytes = Vec::new(alloc);
-    let most = (MOST_TRANSFER as u32 / plan.block.bytes()).max(1);
-    for time in 0..appended.div_ceil(most) {
-        let before = time.saturating_mul(most);
-        let count = counted(most.min(appended.saturating_sub(before)));
-        asked.read(alloc, begin.saturating_add(u64::from(before)), count, &mut bytes)?;
-    }
-    match unpack(alloc, bytes.as_slice(), plan.block) {
-        Ok(records) => Ok(records),
-        Err(UnpackFault::Memory) => Err(Failure::NoMemory),
-        Err(UnpackFault::At(byte)) => {
-            Err(refused(format!(in alloc; "byte {byte} of the answer is none of a record")))
-        }
-    }
+    stretch: Stretch,
+    bytes: &mut Vec<u8>,
+) -> Result<(), Failure<'a>> {
+    bytes.clear();
+    let needed = match plan.parts.get(index) {
+        Some(part) => blocks_needed(stretch.blocks, part.sizes),
+        None => 0,
+    };
+    make_room(alloc, asked, plan, needed)?;
+    let written = asked.written(plan.destination);
+    let begin = plan.destination_lba.saturating_add(u64::from(written));
+    let appended = run(alloc, asked, plan, index, stretch)?;
+    read_back(alloc, asked, plan.block, begin, appended, bytes)
 }
 
-/// Runs a program over so many blocks after the first ones, to its end: how many blocks it appended.
+/// Adds the bytes of so many blocks from an address on.
+fn read_back<'a>(
+    alloc: Global,
+    asked: &mut AskedDevice,
+    block: BlockSize,
+    begin: u64,
+    blocks: u32,
+    bytes: &mut Vec<u8>,
+) -> Result<(), Failure<'a>> {
+    let most = (MOST_TRANSFER as u32 / block.bytes()).max(1);
+    for time in 0..blocks.div_ceil(most) {
+        let before = time.saturating_mul(most);
+        let count = counted(most.min(blocks.saturating_sub(before)));
+        asked.read(alloc, begin.saturating_add(u64::from(before)), count, bytes)?;
+    }
+    Ok(())
+}
+
+/// Runs a program over blocks, to its end: how many blocks it appended.
 pub(crate) fn run<'a>(
     alloc: Global,
     asked: &mut AskedDevice,
-    plan: &Plan<'_>,
+    plan: &Plan,
     index: usize,
-    done: u32,
-    blocks: u32,
+    stretch: Stretch,
 ) -> Result<u32, Failure<'a>> {
     let command = RunCommand {
-        lba: plan.source.lba.saturating_add(u64::from(done)),
-        blocks: counted(blocks),
+        lba: plan.source.lba.saturating_add(u64::from(stretch.before)),
+        blocks: counted(stretch.blocks),
         slot: slot_of(index),
         argument: plan.argument,
         destination: plan.destination_lba,
     };
-    Ok(asked.run(alloc, command)?.dw1)
-}
-
-/// How many blocks of the zone that is appended to are written.
-fn written(asked: &AskedDevice, plan: &Plan<'_>) -> u32 {
-    match asked.device.image().zones().get(plan.destination as usize) {
-        Some(zone) => zone.written(),
-        None => 0,
-    }
+    let completion = asked.run(alloc, command)?;
+    Ok(completion.dw1)
 }
 
 /// Makes room for so many blocks: resets the zone that is appended to, of which all is read, where it lacks it.
 fn make_room<'a>(
     alloc: Global,
     asked: &mut AskedDevice,
-    plan: &Plan<'_>,
+    plan: &Plan,
     blocks: u32,
 ) -> Result<(), Failure<'a>> {
-    let capacity = asked.device.image().geometry().capacity();
-    if written(asked, plan).saturating_add(blocks) <= capacity {
+    if asked.written(plan.destination).saturating_add(blocks) <= asked.capacity() {
         return Ok(());
     }
     asked.send(alloc, plan.destination_lba, Action::Reset)?;

@@ -1,56 +1,45 @@
 //! What records have in columns.
 
-ghost use Rattle.std.specs.Prelude.{◌≡◌, ◌≤◌, length, IfSome};
+ghost use Rattle.std.specs.Prelude.{◌≡◌, ◌≤◌, ◌↔◌, length, IfSome, IsSome};
 ghost use Rattle.instruction_set.specs.Instruction.{size_of};
-ghost use Rattle.record_questions.specs.Question.{number_of, signed_by, value_of};
-ghost use Rattle.command_query.specs.Cells.{moved};
+ghost use Rattle.record_questions.specs.Question.{number_of, signed_by};
+ghost use Rattle.command_query.specs.Cells.{IsValueIn, LiesAmong};
 
 use crate::columns::{Column, Kind, bytes_of};
 use byteorder::{BigEndian, ByteOrder as _, LittleEndian};
-use command_files::Shown;
 use record_questions::{ByteOrder, Field, Sign};
-use std::alloc::{AllocError, Global};
 use std::str;
 
-/// A cell of a row.
-#[derive(Drop)]
-pub(crate) enum Cell {
+/// What a row has in a column.
+#[derive(Clone, Copy)]
+pub(crate) enum Cell<'r> {
     /// A number.
     Number(i128),
-    /// A text in which a terminal obeys nothing.
-    Text(String),
+    /// A text.
+    Text(&'r str),
+    /// Bytes.
+    Bytes(&'r [u8]),
     /// Nothing: a tally that records have and none matches.
     Nothing,
 }
 
-/// The cell of a column in bytes of a record, of which the first is at an offset of it.
-///
-/// # Errors
-///
-/// Want of memory.
-pub(crate) fn cell_of(
-    alloc: Global,
-    column: &Column,
-    bytes: &[u8],
-    from: u16,
-) -> Result<Cell, AllocError> {
+/// What bytes of a record have in a column, where the first of them is at an offset of it.
+pub(crate) fn cell_of<'r>(column: &Column, from: u16, bytes: &'r [u8]) -> Cell<'r> {
     match column.kind {
         Kind::Number(field) => match number_in(field, from, bytes) {
-            Some(number) => Ok(Cell::Number(number)),
-            None => Ok(Cell::Nothing),
+            Some(number) => Cell::Number(number),
+            None => Cell::Nothing,
         },
-        Kind::Text { offset, size } => {
-            Ok(Cell::Text(text_of(alloc, part(bytes, from, offset, size))?))
-        }
-        Kind::Bytes { offset, size } => {
-            Ok(Cell::Text(digits_of(alloc, part(bytes, from, offset, size))?))
-        }
+        Kind::Text { offset, size } => text_in(part(bytes, from, offset, size)),
+        Kind::Bytes { offset, size } => Cell::Bytes(part(bytes, from, offset, size)),
     }
 }
 
-/// The value of a field in bytes of a record, of which the first is at an offset of it; `None` where it isn't among them.
+/// The value of a field of a record, by bytes of which the first is at an offset of it; `None` where it isn't among them.
+#[tactic(auto, using(crate::proofs::Cut::value_in))]
 fn number_in(field: Field, from: u16, bytes: &[u8]) -> Option<i128>
-    ensures { IfSome result (λ number. number ≡ value_of (moved from field) bytes.now) }
+    ensures found { IsSome result ↔ LiesAmong from field bytes.now }
+    ensures value { IfSome result (IsValueIn from field bytes.now) }
 {
     if field.offset < from {
         return None;
@@ -82,11 +71,11 @@ fn part(bytes: &[u8], from: u16, offset: u16, size: u16) -> &[u8] {
     bytes.get(first..first + usize::from(size)).unwrap_or(&[])
 }
 
-/// Bytes as text, without the zeros and blanks after it; in hexadecimal where they are none.
-fn text_of(alloc: Global, bytes: &[u8]) -> Result<String, AllocError> {
+/// Bytes as text, without the zeros and blanks after it; as bytes where they are none.
+fn text_in(bytes: &[u8]) -> Cell<'_> {
     match str::from_utf8(without_filling(bytes)) {
-        Ok(text) => format!(in alloc; "{}", Shown(text)),
-        Err(_) => digits_of(alloc, bytes),
+        Ok(text) => Cell::Text(text),
+        Err(_) => Cell::Bytes(bytes),
     }
 }
 
@@ -97,11 +86,4 @@ fn without_filling(bytes: &[u8]) -> &[u8] {
         inside = rest;
     }
     inside
-}
-
-/// Bytes in hexadecimal.
-fn digits_of(alloc: Global, bytes: &[u8]) -> Result<String, AllocError> {
-    let digits = hex::encode(alloc, bytes)?;
-    let digits = digits.as_str();
-    format!(in alloc; "0x{digits}")
 }

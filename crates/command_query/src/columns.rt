@@ -5,7 +5,7 @@ ghost use Rattle.instruction_set.specs.Instruction.{size_of};
 
 use instruction_set::Size;
 use record_questions::{ByteOrder, Field, Sign};
-use std::alloc::AllocError;
+use std::alloc::{AllocError, Global};
 
 /// What a column has of each record.
 #[derive(Clone, Copy, Debug, PartialEq, Eq)]
@@ -31,6 +31,17 @@ pub(crate) struct Column {
     pub(crate) name: String,
     /// What it has.
     pub(crate) kind: Kind,
+}
+
+impl Column {
+    /// The same column again.
+    pub(crate) fn copied(&self, alloc: Global) -> Result<Column, AllocError> {
+        let name = String::from_str(alloc, self.name.as_str())?;
+        Ok(Column {
+            name,
+            kind: self.kind,
+        })
+    }
 }
 
 /// How many bytes a number of this size has.

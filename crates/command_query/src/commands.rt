@@ -13,13 +13,13 @@ use nvme_entry::{
 };
 use runner::Device;
 use std::alloc::Global;
-use zone_state::{Action, Status};
+use zone_state::{Action, Status, ZoneState};
 
 /// A device in memory, with room for what it gives.
 #[derive(Drop)]
 pub(crate) struct AskedDevice {
     /// The device.
-    pub(crate) device: Box<Device>,
+    device: Box<Device>,
     /// Room for the largest transfer.
     output: Vec<u8>,
     ghost room: { MOST_TRANSFER ≤ length output.items },
@@ -30,6 +30,27 @@ impl AskedDevice {
     pub(crate) fn new<'a>(alloc: Global, device: Box<Device>) -> Result<AskedDevice, Failure<'a>> {
         let output = vec![in alloc; 0; MOST_TRANSFER]?;
         Ok(AskedDevice { device, output })
+    }
+
+    /// The state of a zone, if there is one of this number.
+    pub(crate) fn state_of(&self, zone: u32) -> Option<ZoneState> {
+        match self.device.image().zones().get(zone as usize) {
+            Some(zone) => Some(zone.state()),
+            None => None,
+        }
+    }
+
+    /// How many blocks of a zone are written.
+    pub(crate) fn written(&self, zone: u32) -> u32 {
+        match self.device.image().zones().get(zone as usize) {
+            Some(zone) => zone.written(),
+            None => 0,
+        }
+    }
+
+    /// How many blocks of a zone can be written.
+    pub(crate) fn capacity(&self) -> u32 {
+        self.device.image().geometry().capacity()
     }
 
     /// Acts on the zone of an address.
@@ -89,7 +110,7 @@ impl AskedDevice {
         succeeded(alloc, "the run isn't done", reply)
     }
 
-    /// The scratch bytes that the last run of a slot's program left.
+    /// Reads the scratch bytes that the last run of a slot's program left: how many bytes of [`AskedDevice::data`] they are.
     ///
     /// # Errors
     ///
@@ -98,10 +119,10 @@ impl AskedDevice {
         &mut self,
         alloc: Global,
         slot: ProgramSlot,
-    ) -> Result<&[u8], Failure<'a>> {
+    ) -> Result<usize, Failure<'a>> {
         let reply = self.submit(Command::Result(slot), &[]);
         succeeded(alloc, "the result isn't read", reply)?;
-        Ok(self.given(&reply))
+        Ok(reply.data_length())
     }
 
     /// Adds the bytes of blocks from an address on, which fit a transfer.
@@ -119,7 +140,7 @@ impl AskedDevice {
         let command = Command::Standard(StandardCommand::Read { lba, blocks });
         let reply = self.submit(command, &[]);
         succeeded(alloc, "the answer isn't read", reply)?;
-        out.extend_from_slice(self.given(&reply))?;
+        out.extend_from_slice(self.data(reply.data_length()))?;
         Ok(())
     }
 
@@ -131,10 +152,10 @@ impl AskedDevice {
         self.device.submit(1, &entry, input, self.output.as_mut_slice())
     }
 
-    /// The data that goes with a reply.
-    fn given(&self, reply: &Reply) -> &[u8] {
+    /// The first bytes of the data that went with the last reply.
+    pub(crate) fn data(&self, length: usize) -> &[u8] {
         let output = self.output.as_slice();
-        output.get(..reply.data_length()).unwrap_or(output)
+        output.get(..length).unwrap_or(output)
     }
 }
 

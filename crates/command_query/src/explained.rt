@@ -14,7 +14,7 @@ use std::alloc::{AllocError, Global};
 pub(crate) fn explained(
     alloc: Global,
     layout: &RecordLayout,
-    plan: &Plan<'_>,
+    plan: &Plan,
 ) -> Result<String, AllocError> {
     let mut text = String::new(alloc);
     let condition = text_of(alloc, &plan.question.wanted)?;
@@ -42,7 +42,7 @@ pub(crate) fn explained(
 }
 
 /// Adds what is printed.
-fn push_wanted(wanted: &Wanted<'_>, text: &mut String) -> Result<(), AllocError> {
+fn push_wanted(wanted: &Wanted, text: &mut String) -> Result<(), AllocError> {
     match wanted {
         Wanted::Rows(columns) => {
             text.push_str("select:")?;
@@ -72,7 +72,7 @@ fn push_column(column: &Column, text: &mut String) -> Result<(), AllocError> {
 }
 
 /// Adds what asking takes.
-fn push_work(plan: &Plan<'_>, text: &mut String) -> Result<(), AllocError> {
+fn push_work(plan: &Plan, text: &mut String) -> Result<(), AllocError> {
     let blocks = Counted(u64::from(plan.source.blocks), "block");
     let zone = plan.source.zone;
     writeln!(text, "source: {blocks} of zone {zone}")?;

@@ -172,9 +172,8 @@ fn read_shape(words: &[&str], begun: &mut Begun) -> Result<(), LayoutFault> {
     if begun.shape.is_some() {
         return Err(LayoutFault::RecordsTwice);
     }
-    let (size, rest) = match words {
-        [size, rest @ ..] => (short(size).ok_or(LayoutFault::Records)?, rest),
-        [] => return Err(LayoutFault::Records),
+    let Some((size, rest)) = first_number(words) else {
+        return Err(LayoutFault::Records);
     };
     let (first, rest) = number_after("from", rest)?;
     let (count, rest) = number_after("count", rest)?;
@@ -190,6 +189,17 @@ fn read_shape(words: &[&str], begun: &mut Begun) -> Result<(), LayoutFault> {
         count,
     });
     Ok(())
+}
+
+/// The number that comes first, and the words after it.
+fn first_number<'s, 't>(words: &'s [&'t str]) -> Option<(u16, &'s [&'t str])> {
+    match words {
+        [number, rest @ ..] => match short(number) {
+            Some(number) => Some((number, rest)),
+            None => None,
+        },
+        [] => None,
+    }
 }
 
 /// The number after a word, where that comes first, and the words after them.

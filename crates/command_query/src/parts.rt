@@ -61,9 +61,9 @@ fn parts_in<'a>(
         if before >= count {
             break;
         }
-        let bytes = u32::from(before) * u32::from(question.size);
+        let bytes = u32::from(before).saturating_mul(u32::from(question.size));
         question.first = u32::from(first).saturating_add(bytes).min(0xFFFF) as u16;
-        question.count = each.min(count - before);
+        question.count = each.min(count.saturating_sub(before));
         match part(alloc, question, block)? {
             Some(part) => add(&mut parts, part)?,
             None => return Ok(None),
@@ -84,9 +84,7 @@ fn part<'a>(
     let verified = match compile(alloc, question, sizes) {
         Ok(verified) => verified,
         Err(QuestionFault::Memory) => return Err(Failure::NoMemory),
-        Err(QuestionFault::OverLimit { .. } | QuestionFault::TooFar | QuestionFault::TooLong(_)) => {
-            return Ok(None);
-        }
+        Err(QuestionFault::OverLimit { .. } | QuestionFault::TooLong(_)) => return Ok(None),
         Err(fault) => return Err(refused(format!(in alloc; "no program asks this: {fault}"))),
     };
     let program = encode(alloc, verified.program())?;

@@ -11,7 +11,7 @@ use crate::layout::{RecordLayout, load};
 use crate::parts::{Part, parts_of};
 use crate::refused::refused;
 use crate::rows::Form;
-use crate::source::{BLOCKS, ZONE, source_asked};
+use crate::source::{BLOCKS, ZONE, first_of, source_asked};
 use crate::understood::{WHERE, question_asked};
 use crate::wanted::{COUNT, GREATEST, LEAST, SELECT, SUM, Wanted, wanted_of};
 use clap::ArgMatches;
@@ -219,30 +219,26 @@ pub fn query<'a, F: Files, O: Write, E: Write>(
     check_form(alloc, form, &wanted)?;
     let device = device_file::load_copy(alloc, required(matches, IMAGE), files)?;
     let plan = planned(alloc, matches, &layout, wanted, device.image())?;
-    let request = Request {
-        form,
-        layout: &layout,
-        plan,
-    };
+    let request = Request { form, layout, plan };
     ask(alloc, matches, &request, device, files, out, err)
 }
 
 /// What is asked.
 #[derive(Drop)]
-struct Request<'l> {
+struct Request {
     /// The form in which the answer is printed.
     form: Form,
     /// The layout of the records.
-    layout: &'l RecordLayout,
+    layout: RecordLayout,
     /// How the question is asked.
-    plan: Plan<'l>,
+    plan: Plan,
 }
 
 /// Asks a question of a device, and prints the answer; or prints how it is understood; or writes its program.
 fn ask<'a, F: Files, O: Write, E: Write>(
     alloc: Global,
     matches: &ArgMatches<'a>,
-    request: &Request<'_>,
+    request: &Request,
     device: Box<Device>,
     files: &mut F,
     out: &mut O,
@@ -255,7 +251,7 @@ fn ask<'a, F: Files, O: Write, E: Write>(
 {
     let plan = &request.plan;
     if required(matches, EXPLAIN) == "true" {
-        let text = explained(alloc, request.layout, plan)?;
+        let text = explained(alloc, &request.layout, plan)?;
         return printed(out.write_all(text.as_bytes()));
     }
     let path = required(matches, PROGRAM);
@@ -269,13 +265,13 @@ fn ask<'a, F: Files, O: Write, E: Write>(
 }
 
 /// How the question that the words ask is asked of a device with this image.
-fn planned<'a, 'l>(
+fn planned<'a>(
     alloc: Global,
     matches: &ArgMatches<'a>,
     layout: &RecordLayout,
-    wanted: Wanted<'l>,
+    wanted: Wanted,
     image: &Image,
-) -> Result<Plan<'l>, Failure<'a>> {
+) -> Result<Plan, Failure<'a>> {
     let argument = number(matches, ARGUMENT_OPTION)?;
     let source = source_asked(alloc, matches, image)?;
     let geometry = image.geometry();
@@ -295,7 +291,7 @@ fn planned<'a, 'l>(
         records,
         parts,
         destination,
-        destination_lba: u64::from(destination) * u64::from(geometry.size()),
+        destination_lba: first_of(destination, geometry.size()),
         blocks_of_run: blocks,
     })
 }
@@ -317,7 +313,7 @@ fn form_asked<'a>(alloc: Global, matches: &ArgMatches<'a>) -> Result<Form, Failu
 fn check_form<'a>(
     alloc: Global,
     form: Form,
-    wanted: &Wanted<'_>,
+    wanted: &Wanted,
 ) -> Result<(), Failure<'a>> {
     match (form, wanted) {
         (Form::Raw, Wanted::Tallies(_)) => Err(refused(
@@ -356,7 +352,7 @@ fn write_program<'a, F: Files, O: Write>(
 }
 
 /// Notes how often the zone was gone over, where that is more than once. Where it can't be noted, nobody can be told.
-fn note_runs<E: Write>(plan: &Plan<'_>, err: &mut E) {
+fn note_runs<E: Write>(plan: &Plan, err: &mut E) {
     let runs = plan.runs();
     if runs > 1 {
         let programs = Counted(plan.parts.len() as u64, "program");

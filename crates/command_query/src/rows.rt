@@ -1,9 +1,12 @@
 //! Rows as text: lines with commas, JSON, or the bytes as they are.
 
-use crate::adding::add;
-use crate::cells::{Cell, cell_of};
-use crate::columns::Column;
+ghost use Rattle.std.specs.Prelude.{◌≡◌, ◌++◌, OnOk};
+ghost use Rattle.std.specs.Fmt.{signed_decimal};
+
+use crate::cells::Cell;
+use command_files::Shown;
 use std::alloc::{AllocError, Global};
+use std::io::{self, Write};
 
 /// The form in which rows are printed.
 #[derive(Clone, Copy, Debug, PartialEq, Eq)]
@@ -16,167 +19,224 @@ pub(crate) enum Form {
     Raw,
 }
 
-/// Text that is printed, with how many rows are in it.
+/// What is to be printed of an answer, in room that is used again.
 #[derive(Drop)]
 pub(crate) struct Printed {
     /// The form.
-    pub(crate) form: Form,
-    /// How many rows there were.
-    pub(crate) rows: u64,
-    /// The bytes that are to be printed.
-    pub(crate) bytes: Vec<u8>,
+    form: Form,
+    /// Is there a row before the next?
+    has_rows: bool,
+    /// What is to be printed next.
+    bytes: Vec<u8>,
 }
 
 impl Printed {
-    /// Nothing but what comes before the first row, below these names.
-    pub(crate) fn begun(
-        alloc: Global,
-        form: Form,
-        names: &[&str],
-    ) -> Result<Printed, AllocError> {
-        let mut text = String::new(alloc);
-        match form {
-            Form::Lines => {
-                for (number, name) in names.iter().enumerate() {
-                    if number > 0 {
-                        text.push_str(",")?;
-                    }
-                    push_quoted(name, &mut text)?;
-                }
-                text.push_str("\n")?;
-            }
-            Form::Json => text.push_str("[")?,
-            Form::Raw => {}
-        }
-        Ok(Printed {
+    /// Nothing yet, in a form.
+    pub(crate) fn new(alloc: Global, form: Form) -> Printed {
+        Printed {
             form,
-            rows: 0,
-            bytes: text.into_bytes(),
-        })
+            has_rows: false,
+            bytes: Vec::new(alloc),
+        }
     }
 
-    /// Adds a row: its cells, or the bytes of its record.
-    pub(crate) fn push_row(
-        &mut self,
-        names: &[&str],
-        record: &[u8],
-        cells: &[Cell],
-    ) -> Result<(), AllocError> {
-        let first = self.rows == 0;
-        self.rows = self.rows.saturating_add(1);
-        let mut text = String::new(*self.bytes.allocator());
-        match self.form {
-            Form::Lines => push_line(cells, &mut text)?,
-            Form::Json => {
-                if !first {
-                    text.push_str(",\n")?;
-                }
-                push_object(names, cells, &mut text)?;
-            }
-            Form::Raw => return self.bytes.extend_from_slice(record),
+    /// Adds the name of a column, where the form has a line of them.
+    pub(crate) fn push_name(&mut self, index: usize, name: &str) -> Result<(), AllocError> {
+        if self.form != Form::Lines {
+            return Ok(());
         }
-        self.bytes.extend_from_slice(text.as_bytes())
+        push_comma(index, &mut self.bytes)?;
+        push_quoted(name, &mut self.bytes)
+    }
+
+    /// Adds what comes between the names and the first row.
+    pub(crate) fn end_names(&mut self) -> Result<(), AllocError> {
+        match self.form {
+            Form::Lines => push("\n", &mut self.bytes),
+            Form::Json => push("[", &mut self.bytes),
+            Form::Raw => Ok(()),
+        }
+    }
+
+    /// Adds what comes before a row.
+    pub(crate) fn begin_row(&mut self) -> Result<(), AllocError> {
+        let first = !self.has_rows;
+        self.has_rows = true;
+        match self.form {
+            Form::Json if first => push("{", &mut self.bytes),
+            Form::Json => push(",\n{", &mut self.bytes),
+            Form::Lines | Form::Raw => Ok(()),
+        }
+    }
+
+    /// Adds what a row has in the column with this name.
+    pub(crate) fn push_cell(
+        &mut self,
+        index: usize,
+        name: &str,
+        cell: Cell<'_>,
+    ) -> Result<(), AllocError> {
+        match self.form {
+            Form::Lines => {
+                push_comma(index, &mut self.bytes)?;
+                push_cell(cell, &mut self.bytes)
+            }
+            Form::Json => {
+                push_comma(index, &mut self.bytes)?;
+                push_string(name, &mut self.bytes)?;
+                push(":", &mut self.bytes)?;
+                push_value(cell, &mut self.bytes)
+            }
+            Form::Raw => Ok(()),
+        }
+    }
+
+    /// Adds what comes after a row: of the form of bytes, these of its record.
+    pub(crate) fn end_row(&mut self, record: &[u8]) -> Result<(), AllocError> {
+        match self.form {
+            Form::Lines => push("\n", &mut self.bytes),
+            Form::Json => push("}", &mut self.bytes),
+            Form::Raw => self.bytes.extend_from_slice(record),
+        }
     }
 
     /// Adds what comes after the last row.
     pub(crate) fn end(&mut self) -> Result<(), AllocError> {
         match self.form {
-            Form::Json => self.bytes.extend_from_slice(b"]\n"),
+            Form::Json => push("]\n", &mut self.bytes),
             Form::Lines | Form::Raw => Ok(()),
         }
     }
+
+    /// Prints what was added since it was printed last.
+    pub(crate) fn print<O: Write>(&mut self, out: &mut O) -> io::Result<()> {
+        out.write_all(self.bytes.as_slice())?;
+        self.bytes.clear();
+        Ok(())
+    }
+
+    /// What is to be printed.
+    #[cfg(test)]
+    pub(crate) fn bytes(&self) -> &[u8] {
+        self.bytes.as_slice()
+    }
 }
 
-/// The cells of a record, of whose bytes the first is at an offset of it.
-pub(crate) fn cells_of(
-    alloc: Global,
-    columns: &[&Column],
-    record: &[u8],
-    from: u16,
-) -> Result<Vec<Cell>, AllocError> {
-    let mut cells = Vec::new(alloc);
-    for column in columns {
-        add(&mut cells, cell_of(alloc, column, record, from)?)?;
-    }
-    Ok(cells)
+/// Adds a text.
+fn push(text: &str, out: &mut Vec<u8>) -> Result<(), AllocError> {
+    out.extend_from_slice(text.as_bytes())
 }
 
-/// Adds a row as a line.
-fn push_line(cells: &[Cell], out: &mut String) -> Result<(), AllocError> {
-    for (number, cell) in cells.iter().enumerate() {
-        if number > 0 {
-            out.push_str(",")?;
-        }
-        match cell {
-            Cell::Number(number) => write!(out, "{number}")?,
-            Cell::Text(text) => push_quoted(text.as_str(), out)?,
-            Cell::Nothing => {}
-        }
+/// Adds what separates a column from the one before it.
+fn push_comma(index: usize, out: &mut Vec<u8>) -> Result<(), AllocError> {
+    if index > 0 {
+        return push(",", out);
     }
-    out.push_str("\n")
+    Ok(())
+}
+
+/// Adds a cell of a line.
+fn push_cell(cell: Cell<'_>, out: &mut Vec<u8>) -> Result<(), AllocError> {
+    match cell {
+        Cell::Number(number) => push_number(number, out),
+        Cell::Text(text) => push_quoted(text, out),
+        Cell::Bytes(bytes) => push_digits(bytes, out),
+        Cell::Nothing => Ok(()),
+    }
+}
+
+/// Adds a cell as a JSON value.
+fn push_value(cell: Cell<'_>, out: &mut Vec<u8>) -> Result<(), AllocError> {
+    match cell {
+        Cell::Number(number) => push_number(number, out),
+        Cell::Text(text) => push_string(text, out),
+        Cell::Bytes(bytes) => {
+            push("\"", out)?;
+            push_digits(bytes, out)?;
+            push("\"", out)
+        }
+        Cell::Nothing => push("null", out),
+    }
+}
+
+/// Adds a number in decimal digits, with a `-` before those of a number below zero.
+fn push_number(number: i128, out: &mut Vec<u8>) -> Result<(), AllocError>
+    ensures { OnOk result (out.new.items ≡ out.old.items ++ signed_decimal number) }
+{
+    stored(write!(out, "{number}"))
+}
+
+/// Adds bytes in hexadecimal.
+fn push_digits(bytes: &[u8], out: &mut Vec<u8>) -> Result<(), AllocError> {
+    push("0x", out)?;
+    for byte in bytes {
+        let byte = *byte;
+        stored(write!(out, "{byte:02x}"))?;
+    }
+    Ok(())
 }
 
 /// Adds a text of a line: between quotes, unless it has nothing but letters, digits and marks of which none has a meaning there.
-fn push_quoted(text: &str, out: &mut String) -> Result<(), AllocError> {
+fn push_quoted(text: &str, out: &mut Vec<u8>) -> Result<(), AllocError> {
     if is_plain(text) {
-        return out.push_str(text);
+        return push_shown(text, out);
     }
-    out.push_str("\"")?;
+    push("\"", out)?;
     for (number, piece) in text.split('"').enumerate() {
         if number > 0 {
-            out.push_str("\"\"")?;
+            push("\"\"", out)?;
         }
-        out.push_str(piece)?;
+        push_shown(piece, out)?;
     }
-    out.push_str("\"")
+    push("\"", out)
 }
 
-/// Does a text stand in a line without quotes?
+/// Adds a text of which a terminal obeys nothing.
+fn push_shown(text: &str, out: &mut Vec<u8>) -> Result<(), AllocError> {
+    let shown = Shown(text);
+    stored(write!(out, "{shown}"))
+}
+
+/// Does a text stand in a line without quotes? Its control characters are shown by plain ones.
 fn is_plain(text: &str) -> bool {
     let bytes = text.as_bytes();
-    !bytes.is_empty()
-        && bytes
-            .iter()
-            .all(|byte| byte.is_ascii_graphic() && !matches!(*byte, b'"' | b'\'' | b','))
+    !bytes.is_empty() && bytes.iter().all(|byte| is_plain_byte(*byte))
 }
 
-/// Adds a row as a JSON object.
-fn push_object(names: &[&str], cells: &[Cell], out: &mut String) -> Result<(), AllocError> {
-    out.push_str("{")?;
-    for (number, (name, cell)) in names.iter().zip(cells.iter()).enumerate() {
-        if number > 0 {
-            out.push_str(",")?;
-        }
-        push_string(name, out)?;
-        out.push_str(":")?;
-        match cell {
-            Cell::Number(number) => write!(out, "{number}")?,
-            Cell::Text(text) => push_string(text.as_str(), out)?,
-            Cell::Nothing => out.push_str("null")?,
-        }
+/// Does a byte of a text stand in a line without quotes?
+fn is_plain_byte(byte: u8) -> bool {
+    match byte {
+        b'"' | b'\'' | b',' => false,
+        _ => byte.is_ascii_graphic() || byte.is_ascii_control(),
     }
-    out.push_str("}")
 }
 
-/// Adds a JSON string of a text without control characters.
-fn push_string(text: &str, out: &mut String) -> Result<(), AllocError> {
-    out.push_str("\"")?;
-    for (number, piece) in text.split('\\').enumerate() {
-        if number > 0 {
-            out.push_str("\\\\")?;
-        }
-        push_unquoted(piece, out)?;
+/// Adds a text as a JSON string.
+fn push_string(text: &str, out: &mut Vec<u8>) -> Result<(), AllocError> {
+    push("\"", out)?;
+    for character in text.chars() {
+        push_character(character, out)?;
     }
-    out.push_str("\"")
+    push("\"", out)
 }
 
-/// Adds a text with a backslash before each quote.
-fn push_unquoted(text: &str, out: &mut String) -> Result<(), AllocError> {
-    for (number, piece) in text.split('"').enumerate() {
-        if number > 0 {
-            out.push_str("\\\"")?;
-        }
-        out.push_str(piece)?;
+/// Adds a character of a JSON string.
+fn push_character(character: char, out: &mut Vec<u8>) -> Result<(), AllocError> {
+    let code = u32::from(character);
+    match character {
+        '"' => push("\\\"", out),
+        '\\' => push("\\\\", out),
+        _ if character.is_control() => stored(write!(out, "\\u{code:04x}")),
+        _ => stored(write!(out, "{character}")),
     }
-    Ok(())
+}
+
+/// What writing to memory comes to.
+fn stored(written: io::Result<()>) -> Result<(), AllocError>
+    ensures { OnOk result (written ≡ Ok tt) }
+{
+    match written {
+        Ok(()) => Ok(()),
+        Err(_) => Err(AllocError),
+    }
 }

@@ -54,9 +54,15 @@ pub(crate) fn source_asked<'a>(
     let size = image.geometry().size();
     Ok(SourceBlocks {
         zone: number_of_zone,
-        lba: u64::from(number_of_zone) * u64::from(size),
+        lba: first_of(number_of_zone, size),
         blocks,
     })
+}
+
+/// The address of the first block of a zone, in zones of so many blocks.
+// There are at most 4096 zones, which the type of a number doesn't say.
+pub(crate) fn first_of(zone: u32, size: u32) -> u64 {
+    u64::from(zone).saturating_mul(u64::from(size))
 }
 
 /// How many blocks are asked about, of so many that are written.

@@ -4,28 +4,57 @@ use std::alloc::{AllocError, Global};
 use std::process::Abort;
 use std::test::Fail;
 
-fn row(alloc: Global, form: Form) -> Result<Printed, AllocError> {
-    let names = ["a b", "c", "d"];
-    let cells = [
-        Cell::Number(-5),
-        Cell::Text(String::from_str(alloc, "x \"\\y")?),
-        Cell::Nothing,
-    ];
-    let mut printed = Printed::begun(alloc, form, &names)?;
-    printed.push_row(&names, b"raw", &cells)?;
+const COLUMNS: &[(&str, Cell<'static>)] = &[
+    ("a b", Cell::Number(-5)),
+    ("c", Cell::Text("x \"\\\ny")),
+    ("d", Cell::Bytes(b"\x00\xff")),
+    ("e", Cell::Nothing),
+];
+
+/// Two rows of the same cells.
+fn rows(alloc: Global, form: Form) -> Result<Printed, AllocError> {
+    let mut printed = Printed::new(alloc, form);
+    for (index, column) in COLUMNS.iter().enumerate() {
+        printed.push_name(index, column.0)?;
+    }
+    printed.end_names()?;
+    push_row(&mut printed)?;
+    push_row(&mut printed)?;
     printed.end()?;
     Ok(printed)
 }
 
+fn push_row(printed: &mut Printed) -> Result<(), AllocError> {
+    printed.begin_row()?;
+    for (index, column) in COLUMNS.iter().enumerate() {
+        printed.push_cell(index, column.0, column.1)?;
+    }
+    printed.end_row(b"raw")
+}
+
+fn expect(rt: &impl Abort, printed: &Printed, bytes: &[u8]) {
+    assert_eq!(rt; printed.bytes(), bytes);
+}
+
 #[test]
-fn rows_have_forms(rt: HostRuntime) -> Result<(), Fail> {
-    let alloc = rt.alloc();
-    let lines = row(alloc, Form::Lines)?;
-    assert_eq!(rt; lines.bytes.as_slice(), b"\"a b\",c,d\n-5,\"x \"\"\\y\",\n".as_slice());
-    let json = row(alloc, Form::Json)?;
-    let object = b"[{\"a b\":-5,\"c\":\"x \\\"\\\\y\",\"d\":null}]\n";
-    assert_eq!(rt; json.bytes.as_slice(), object.as_slice());
-    let raw = row(alloc, Form::Raw)?;
-    assert_eq!(rt; raw.bytes.as_slice(), b"raw".as_slice());
+fn rows_are_lines(rt: HostRuntime) -> Result<(), Fail> {
+    let printed = rows(rt.alloc(), Form::Lines)?;
+    let row = b"\"a b\",c,d,e\n-5,\"x \"\"\\\\x0ay\",0x00ff,\n-5,\"x \"\"\\\\x0ay\",0x00ff,\n";
+    expect(&rt, &printed, row.as_slice());
+    Ok(())
+}
+
+#[test]
+fn rows_are_json(rt: HostRuntime) -> Result<(), Fail> {
+    let printed = rows(rt.alloc(), Form::Json)?;
+    let row = b"[{\"a b\":-5,\"c\":\"x \\\"\\\\\\u000ay\",\"d\":\"0x00ff\",\"e\":null},\n{\"a b\":-5,\"c\":\"x \\\"\\\\\\u000ay\",\"d\":\"0x00ff\",\"e\":null}]\n";
+    expect(&rt, &printed, row.as_slice());
+    Ok(())
+}
+
+#[test]
+fn rows_are_bytes(rt: HostRuntime) -> Result<(), Fail> {
+    let printed = rows(rt.alloc(), Form::Raw)?;
+    expect(&rt, &printed, b"rawraw");
     Ok(())
 }

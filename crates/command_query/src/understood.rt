@@ -25,7 +25,7 @@ pub(crate) fn question_asked<'a>(
     alloc: Global,
     matches: &ArgMatches<'a>,
     layout: &RecordLayout,
-    wanted: &Wanted<'_>,
+    wanted: &Wanted,
     block: BlockSize,
 ) -> Result<Question, Failure<'a>> {
     let size = layout.shape.size;

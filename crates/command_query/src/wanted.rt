@@ -36,14 +36,14 @@ pub(crate) struct NamedTally {
 
 /// What is printed.
 #[derive(Drop)]
-pub(crate) enum Wanted<'l> {
+pub(crate) enum Wanted {
     /// These columns of each record that matches.
-    Rows(Vec<&'l Column>),
+    Rows(Vec<Column>),
     /// These tallies of all records that match.
     Tallies(Vec<NamedTally>),
 }
 
-impl Wanted<'_> {
+impl Wanted {
     /// The bytes of a record that have all columns.
     pub(crate) fn range(&self) -> Option<ByteRange> {
         match self {
@@ -69,7 +69,7 @@ impl Wanted<'_> {
 }
 
 /// The bytes of a record from the first of some columns to the end of the last.
-fn range_of(columns: &[&Column]) -> Option<ByteRange> {
+fn range_of(columns: &[Column]) -> Option<ByteRange> {
     let mut first = u16::MAX;
     let mut end = 0;
     for column in columns {
@@ -91,11 +91,11 @@ fn range_of(columns: &[&Column]) -> Option<ByteRange> {
 /// # Errors
 ///
 /// A name that the layout lacks, a column that isn't tallied, or both tallies and columns.
-pub(crate) fn wanted_of<'a, 'l>(
+pub(crate) fn wanted_of<'a>(
     alloc: Global,
     matches: &ArgMatches<'a>,
-    layout: &'l RecordLayout,
-) -> Result<Wanted<'l>, Failure<'a>> {
+    layout: &RecordLayout,
+) -> Result<Wanted, Failure<'a>> {
     let tallies = tallies_asked(alloc, matches, layout)?;
     let select = required(matches, SELECT);
     if tallies.is_empty() {
@@ -109,24 +109,31 @@ pub(crate) fn wanted_of<'a, 'l>(
 }
 
 /// The columns with these names, between commas.
-fn columns_asked<'a, 'l>(
+fn columns_asked<'a>(
     alloc: Global,
     names: &str,
-    layout: &'l RecordLayout,
-) -> Result<Vec<&'l Column>, Failure<'a>> {
-    let mut columns = Vec::new(alloc);
+    layout: &RecordLayout,
+) -> Result<Vec<Column>, Failure<'a>> {
     if names.is_empty() {
-        for column in &layout.columns {
-            add(&mut columns, column)?;
-        }
-    } else {
-        for name in names.split(',') {
-            add(&mut columns, named_column(alloc, SELECT, name.trim(), layout)?)?;
-        }
+        return all_columns(alloc, layout);
     }
-    if columns.is_empty() {
+    let mut columns = Vec::new(alloc);
+    for name in names.split(',') {
+        let column = named_column(alloc, SELECT, name.trim(), layout)?;
+        add(&mut columns, column.copied(alloc)?)?;
+    }
+    Ok(columns)
+}
+
+/// The columns of a layout.
+fn all_columns<'a>(alloc: Global, layout: &RecordLayout) -> Result<Vec<Column>, Failure<'a>> {
+    if layout.columns.is_empty() {
         let told = format!(in alloc; "the layout has no field; add a line such as `region u32 @8`");
         return Err(refused(told));
+    }
+    let mut columns = Vec::new(alloc);
+    for column in &layout.columns {
+        add(&mut columns, column.copied(alloc)?)?;
     }
     Ok(columns)
 }
