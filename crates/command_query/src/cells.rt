@@ -3,7 +3,7 @@
 ghost use Rattle.std.specs.Prelude.{◌≡◌, ◌≤◌, ◌↔◌, length, IfSome, IsSome};
 ghost use Rattle.instruction_set.specs.Instruction.{size_of};
 ghost use Rattle.record_questions.specs.Question.{number_of, signed_by};
-ghost use Rattle.command_query.specs.Cells.{IsValueIn, LiesAmong};
+ghost use Rattle.command_query.specs.Cells.{HasColumn, IsValueIn, LiesAmong};
 
 use crate::columns::{Column, Kind, bytes_of};
 use byteorder::{BigEndian, ByteOrder as _, LittleEndian};
@@ -24,7 +24,9 @@ pub(crate) enum Cell<'r> {
 }
 
 /// What bytes of a record have in a column, where the first of them is at an offset of it.
-pub(crate) fn cell_of<'r>(column: &Column, from: u16, bytes: &'r [u8]) -> Cell<'r> {
+pub(crate) fn cell_of<'r>(column: &Column, from: u16, bytes: &'r [u8]) -> Cell<'r>
+    ensures { HasColumn from column.now.kind bytes.now result }
+{
     match column.kind {
         Kind::Number(field) => match number_in(field, from, bytes) {
             Some(number) => Cell::Number(number),
@@ -36,7 +38,6 @@ pub(crate) fn cell_of<'r>(column: &Column, from: u16, bytes: &'r [u8]) -> Cell<'
 }
 
 /// The value of a field of a record, by bytes of which the first is at an offset of it; `None` where it isn't among them.
-#[tactic(auto, using(crate::proofs::Cut::value_in))]
 fn number_in(field: Field, from: u16, bytes: &[u8]) -> Option<i128>
     ensures found { IsSome result ↔ LiesAmong from field bytes.now }
     ensures value { IfSome result (IsValueIn from field bytes.now) }

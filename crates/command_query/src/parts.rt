@@ -64,7 +64,7 @@ fn parts_in<'a>(
         let bytes = u32::from(before).saturating_mul(u32::from(question.size));
         question.first = u32::from(first).saturating_add(bytes).min(0xFFFF) as u16;
         question.count = each.min(count.saturating_sub(before));
-        match part(alloc, question, block)? {
+        match part_of(alloc, question, block)? {
             Some(part) => add(&mut parts, part)?,
             None => return Ok(None),
         }
@@ -73,7 +73,7 @@ fn parts_in<'a>(
 }
 
 /// The program of a question; `None` where it would have too many slots or may emit too much.
-fn part<'a>(
+fn part_of<'a>(
     alloc: Global,
     question: &Question,
     block: BlockSize,

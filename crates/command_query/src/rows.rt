@@ -1,7 +1,8 @@
 //! Rows as text: lines with commas, JSON, or the bytes as they are.
 
-ghost use Rattle.std.specs.Prelude.{◌≡◌, ◌++◌, OnOk};
+ghost use Rattle.std.specs.Prelude.{◌≡◌, ◌++◌, [], codes, OnOk};
 ghost use Rattle.std.specs.Fmt.{signed_decimal};
+ghost use Rattle.command_query.specs.Cells.{AddsNumber};
 
 use crate::cells::Cell;
 use command_files::Shown;
@@ -123,7 +124,9 @@ impl Printed {
 }
 
 /// Adds a text.
-fn push(text: &str, out: &mut Vec<u8>) -> Result<(), AllocError> {
+fn push(text: &str, out: &mut Vec<u8>) -> Result<(), AllocError>
+    ensures { OnOk result (out.new.items ≡ out.old.items ++ text.now) }
+{
     out.extend_from_slice(text.as_bytes())
 }
 
@@ -136,17 +139,21 @@ fn push_comma(index: usize, out: &mut Vec<u8>) -> Result<(), AllocError> {
 }
 
 /// Adds a cell of a line.
-fn push_cell(cell: Cell<'_>, out: &mut Vec<u8>) -> Result<(), AllocError> {
+fn push_cell(cell: Cell<'_>, out: &mut Vec<u8>) -> Result<(), AllocError>
+    ensures { OnOk result (AddsNumber [] cell.entry out.old.items out.new.items) }
+{
     match cell {
         Cell::Number(number) => push_number(number, out),
         Cell::Text(text) => push_quoted(text, out),
         Cell::Bytes(bytes) => push_digits(bytes, out),
-        Cell::Nothing => Ok(()),
+        Cell::Nothing => push("", out),
     }
 }
 
 /// Adds a cell as a JSON value.
-fn push_value(cell: Cell<'_>, out: &mut Vec<u8>) -> Result<(), AllocError> {
+fn push_value(cell: Cell<'_>, out: &mut Vec<u8>) -> Result<(), AllocError>
+    ensures { OnOk result (AddsNumber (codes "null") cell.entry out.old.items out.new.items) }
+{
     match cell {
         Cell::Number(number) => push_number(number, out),
         Cell::Text(text) => push_string(text, out),
