@@ -1,7 +1,8 @@
 //! The command `query`: a question about the records of a zone.
 
-ghost use Rattle.std.specs.Prelude.{◌≡◌, OnErr};
+ghost use Rattle.std.specs.Prelude.{◌≡◌, [], OnErr};
 ghost use Rattle.command_files.specs.Made.{MakesAtMostOne};
+ghost use Rattle.command_query.specs.Files.{program_file};
 
 use crate::answering::{Plan, answer, blocks_of_run};
 use crate::commands::AskedDevice;
@@ -195,7 +196,8 @@ pub static WORDS: Words = Words {
 };
 
 /// Asks the question that the words ask of the device that the image file stands for, in memory, and prints the answer. Where a program
-/// is wanted, it makes that file, and no other; else it makes none. What is noted goes to `err`; where this fails, nothing does.
+/// is wanted, it makes at most one file; else it makes none, and each file has the bytes that it had. What is noted goes to `err`; where
+/// this fails, nothing does.
 ///
 /// # Errors
 ///
@@ -209,6 +211,8 @@ pub fn query<'a, F: Files, O: Write, E: Write>(
     err: &mut E,
 ) -> Result<(), Failure<'a>>
     ensures one { MakesAtMostOne (F.made files.old) (F.made files.new) }
+    ensures unmade { program_file matches.now ≡ [] → F.made files.new ≡ F.made files.old }
+    ensures unchanged { program_file matches.now ≡ [] → F.contents files.new ≡ F.contents files.old }
     ensures kept { OnErr result (F.made files.new ≡ F.made files.old) }
     ensures contents { OnErr result (F.contents files.new ≡ F.contents files.old) }
     ensures unnoted { OnErr result (E.contents err.new ≡ E.contents err.old) }
@@ -245,6 +249,8 @@ fn ask<'a, F: Files, O: Write, E: Write>(
     err: &mut E,
 ) -> Result<(), Failure<'a>>
     ensures one { MakesAtMostOne (F.made files.old) (F.made files.new) }
+    ensures unmade { program_file matches.now ≡ [] → F.made files.new ≡ F.made files.old }
+    ensures unchanged { program_file matches.now ≡ [] → F.contents files.new ≡ F.contents files.old }
     ensures kept { OnErr result (F.made files.new ≡ F.made files.old) }
     ensures contents { OnErr result (F.contents files.new ≡ F.contents files.old) }
     ensures unnoted { OnErr result (E.contents err.new ≡ E.contents err.old) }
