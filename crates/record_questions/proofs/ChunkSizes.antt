@@ -49,7 +49,7 @@ pub from_ok : {X E : Type 0} (r : Result X E) (P Q : X → Type 0) → IfOk r P 
 from_ok (Ok x) P Q h f = f x h
 from_ok (Err e) P Q h f = tt
 
-pub next_slots : (xs rest : List ℕ) (s : Size) (a b n : ℕ) → 1 ≤ length xs → s ≡ chunk_size (length xs) → rest ≡ drop (size_of s) xs
+next_slots : (xs rest : List ℕ) (s : Size) (a b n : ℕ) → 1 ≤ length xs → s ≡ chunk_size (length xs) → rest ≡ drop (size_of s) xs
     → a ≡ comparison_slots (chunk_field s 0) (chunk_operand s xs) → b ≡ chunks_slots (chunk_sizes (length rest)) rest → n ≡ a + b
     → n ≡ chunks_slots (chunk_sizes (length xs)) xs
 next_slots xs rest s a b n some es er ea eb en =

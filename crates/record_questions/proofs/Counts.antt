@@ -1,5 +1,5 @@
 -- How many slots the program of a question takes.
-use Rattle.std.proofs.Common.{ℕ, zero, suc, ◌+◌, ◌-◌, ◌*◌, ◌<◌, ◌≤◌, ◌^◌, ◌≡◌, Bool, true, false, List, [], ◌∷◌, ◌++◌, length, Option, Some, None, refl, ap, ◌∙◌, arith}
+use Rattle.std.proofs.Common.{ℕ, zero, suc, ◌+◌, ◌-◌, ◌*◌, ◌<◌, ◌≤◌, ◌^◌, ◌≡◌, Bool, true, false, List, [], ◌∷◌, length, Option, Some, None, refl, arith}
 use Rattle.std.proofs.lemmas.Bool.Decides.{nat_tests}
 use Rattle.std.specs.Prelude.{if◌then◌else◌, min, nat_le}
 use Rattle.instruction_set.specs.Program.{is_wide, slots_of}
@@ -14,13 +14,14 @@ use Rattle.record_questions.specs.declared.question.Question.{Question}
 use Rattle.record_questions.specs.Asked.{IsQuestion}
 use Rattle.record_questions.specs.Code.{counted, match_code, match_slots, question_code, question_program, record_code, records_code, slot_count, test_code, test_slots}
 
+one_long : (wide : Bool) (i : Instruction) (rest : List (Option Instruction)) (n : ℕ) → length rest ≡ n
+    → length (if wide then Some i ∷ None ∷ rest else Some i ∷ rest) ≡ (if wide then 2 else 1) + n
+one_long true i rest n e = omega (arith, e)
+one_long false i rest n e = omega (arith, e)
+
 slots_long : (is : List Instruction) → length (slots_of is) ≡ slot_count is
 slots_long [] = refl
-slots_long (i ∷ is) = one (is_wide i)
-  where
-    one : (wide : Bool) → length (if wide then Some i ∷ None ∷ slots_of is else Some i ∷ slots_of is) ≡ (if wide then 2 else 1) + slot_count is
-    one true = let rest = slots_long is in omega (arith, rest)
-    one false = let rest = slots_long is in omega (arith, rest)
+slots_long (i ∷ is) = one_long (is_wide i) i (slots_of is) (slot_count is) (slots_long is)
 
 -- the slots of a record
 abbrev each : Question → ℕ
@@ -34,7 +35,7 @@ record_slots q byte =
     omega (arith, a, b, slot_count-append test (match_code q byte))
 
 records_slots : (q : Question) (n byte : ℕ) → slot_count (records_code q n byte) ≡ n * each q
-records_slots q zero byte = refl
+records_slots q zero byte = omega arith
 records_slots q (suc n) byte =
     let a = record_slots q byte in
     let b = records_slots q n (byte + q.size) in
@@ -52,7 +53,7 @@ product n a b = by (nat_le (a + b) (2 ^ 64 - 1)) refl
   where
     many : (n : ℕ) → 2 ^ 64 - 1 ≤ a + b
         → min (min (n * (2 ^ 64 - 1)) (2 ^ 64 - 1) + 4) (2 ^ 64 - 1) ≡ counted (n * (a + b) + 4)
-    many zero long = refl
+    many zero long = omega arith
     many (suc n) long = omega (arith, long)
 
     by : (few : Bool) → nat_le (a + b) (2 ^ 64 - 1) ≡ few

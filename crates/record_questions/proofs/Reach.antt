@@ -1,6 +1,6 @@
 -- What a record has is within reach of an instruction's offset.
-use Rattle.std.proofs.Common.{ℕ, pos, ◌+◌, ◌-◌, ◌*◌, ◌<◌, ◌≤◌, ◌^◌, ◌≡◌, List, [], ◌∷◌, refl, arith}
-use Rattle.std.proofs.Math.Nat.{mul-le}
+use Rattle.std.proofs.Common.{ℕ, ◌+◌, ◌-◌, ◌*◌, ◌<◌, ◌≤◌, ◌^◌, ◌≡◌, List, [], ◌∷◌, refl, arith, lit≤}
+use Rattle.std.proofs.lemmas.Nat.{mul-le}
 use Rattle.byteorder.specs.Endian.{little_number}
 use Rattle.common_definitions.specs.Bytes.{AreBytes}
 use Rattle.instruction_set.specs.Instruction.{size_of}

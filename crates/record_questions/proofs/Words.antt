@@ -208,9 +208,9 @@ rest_all : (xs : List ℕ) (x : ℕ) → AllByRecursion (λ y. y < 2 ^ 64) xs �
 rest_all [] x fit all = tt
 rest_all (y ∷ ys) x fit all = let small = fit.0 in let h = all.0 in (omega (arith, small, h), rest_all ys x fit.1 all.1)
 
-least_told : (f : Field) (rs : List (List ℕ)) → AllByRecursion AreBytes rs → 1 ≤ length rs
+least_is : (f : Field) (rs : List (List ℕ)) → AllByRecursion AreBytes rs → 1 ≤ length rs
     → IsLeast (map (number_in f) rs) (2 ^ 64 - 1 - tally_from (Least f) rs 0)
-least_told f rs are some =
+least_is f rs are some =
     let xs = map (number_in f) rs in
     let top = top_of (map rest_of xs) 0 in
     let fit = numbers_fit f rs are in
@@ -218,8 +218,8 @@ least_told f rs are some =
     subst (λ x. IsLeast xs (rest_of x)) (sym (least_is_top f rs 0))
     (among_contains xs (rest_of top) (rest_among xs top fit (top_among (map rest_of xs) long)), rest_all xs top fit (top_all (map rest_of xs) 0))
 
-greatest_told : (f : Field) (rs : List (List ℕ)) → 1 ≤ length rs → IsGreatest (map (number_in f) rs) (tally_from (Greatest f) rs 0)
-greatest_told f rs some =
+greatest_is : (f : Field) (rs : List (List ℕ)) → 1 ≤ length rs → IsGreatest (map (number_in f) rs) (tally_from (Greatest f) rs 0)
+greatest_is f rs some =
     let xs = map (number_in f) rs in
     let long : 1 ≤ length xs = omega (arith, some, length-map rs (number_in f)) in
     subst (IsGreatest xs) (sym (greatest_is_top f rs 0)) (among_contains xs (top_of xs 0) (top_among xs long), top_all xs 0)
@@ -230,6 +230,6 @@ tallies_are_totals = record {
       sym (mod-eq_of_lt (tally_fits Count rs 0 are (lit< tt))) ∙ (count_from rs 0 ∙ ap (λ (k : ℕ). k % 2 ^ 64) e);
   sum = λ f rs are. let e : 0 + sum_by (number_in f) rs ≡ sum_by (number_in f) rs = omega arith in
       sym (mod-eq_of_lt (tally_fits (Sum f) rs 0 are (lit< tt))) ∙ (sum_from f rs 0 ∙ ap (λ (k : ℕ). k % 2 ^ 64) e);
-  least = least_told;
-  greatest = λ f rs are some. greatest_told f rs some;
+  least = least_is;
+  greatest = λ f rs are some. greatest_is f rs some;
 }

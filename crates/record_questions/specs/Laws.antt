@@ -13,7 +13,7 @@ use Rattle.record_questions.specs.declared.question.Question.{Question}
 use Rattle.record_questions.specs.Question.{answer, matching}
 use Rattle.record_questions.specs.Tallies.{tallied_of}
 
--- the run's argument, as a context tells it
+-- the run's argument, in its context
 abbrev pub argument_in : List ℕ → ℕ
 argument_in context = field context 20 4
 
