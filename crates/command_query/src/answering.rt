@@ -4,6 +4,7 @@ use crate::columns::Column;
 use crate::commands::AskedDevice;
 use crate::parts::Part;
 use crate::records::push_rows;
+use crate::refused::refused;
 use crate::rows::{Form, Printed};
 use crate::source::SourceBlocks;
 use crate::tallied::answer_tallies;
@@ -38,6 +39,8 @@ pub(crate) struct Plan {
     pub(crate) destination: u32,
     /// The address of its first block.
     pub(crate) destination_lba: u64,
+    /// Is what is appended there kept?
+    pub(crate) is_kept: bool,
     /// How many blocks each run goes over, at most.
     pub(crate) blocks_of_run: u32,
 }
@@ -246,7 +249,7 @@ pub(crate) fn run<'a>(
     Ok(completion.dw1)
 }
 
-/// Makes room for so many blocks: resets the zone that is appended to, of which all is read, where it lacks it.
+/// Makes room for so many blocks: where the zone that is appended to lacks it, it is reset, of which all is read; unless it is kept.
 fn make_room<'a>(
     alloc: Global,
     asked: &mut AskedDevice,
@@ -255,6 +258,11 @@ fn make_room<'a>(
 ) -> Result<(), Failure<'a>> {
     if asked.written(plan.destination).saturating_add(blocks) <= asked.capacity() {
         return Ok(());
+    }
+    if plan.is_kept {
+        let zone = plan.destination;
+        let told = format!(in alloc; "--into {zone}: the zone lacks room for {blocks} blocks more, which the next run appends if all records match; name one that is Empty, or ask about fewer by --blocks");
+        return Err(refused(told));
     }
     asked.send(alloc, plan.destination_lba, Action::Reset)?;
     asked.send(alloc, plan.destination_lba, Action::Open)

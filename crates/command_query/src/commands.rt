@@ -7,6 +7,7 @@ ghost use Rattle.nvme_entry.specs.declared.command.TheConstants.{MOST_TRANSFER};
 use crate::refused::refused;
 use command_files::Failure;
 use device_events::Reply;
+use image_store::Image;
 use nvme_entry::{
     BlockCount, Command, Completion, Entry, LoadCommand, MOST_BLOCKS, MOST_TRANSFER, ProgramSlot,
     RunCommand, StandardCommand,
@@ -30,6 +31,11 @@ impl AskedDevice {
     pub(crate) fn new<'a>(alloc: Global, device: Box<Device>) -> Result<AskedDevice, Failure<'a>> {
         let output = vec![in alloc; 0; MOST_TRANSFER]?;
         Ok(AskedDevice { device, output })
+    }
+
+    /// The image that the device has.
+    pub(crate) fn image(&self) -> &Image {
+        self.device.image()
     }
 
     /// The state of a zone, if there is one of this number.

@@ -1,23 +1,32 @@
 //! The zone that an answer is appended to.
 
 use crate::refused::refused;
+use clap::ArgMatches;
 use command_files::Failure;
+use command_files::arguments::{number, required};
 use image_store::Image;
 use std::alloc::Global;
 use zone_state::ZoneState;
 
-/// The zone of a device to which the answer of a question about another is appended: the first that is Empty. Where nothing is appended
-/// one that is open serves too.
+/// The option that names the zone which keeps the answer.
+pub(crate) const INTO: &str = "into";
+
+/// The zone to which the answer of a question about another is appended: the one that the words name, and else the first that is Empty.
+/// Where nothing is appended one that is open serves too.
 ///
 /// # Errors
 ///
-/// There is none.
+/// There is no such zone, it is the one that is asked about, or nothing is appended to it.
 pub(crate) fn destination_for<'a>(
     alloc: Global,
+    matches: &ArgMatches<'a>,
     image: &Image,
     source: u32,
     appends: bool,
 ) -> Result<u32, Failure<'a>> {
+    if !required(matches, INTO).is_empty() {
+        return named_zone(alloc, matches, image, source, appends);
+    }
     match destination_in(image, source, appends) {
         Some(zone) => Ok(zone),
         None => {
@@ -25,6 +34,32 @@ pub(crate) fn destination_for<'a>(
             Err(refused(told))
         }
     }
+}
+
+/// The zone that the words name.
+fn named_zone<'a>(
+    alloc: Global,
+    matches: &ArgMatches<'a>,
+    image: &Image,
+    source: u32,
+    appends: bool,
+) -> Result<u32, Failure<'a>> {
+    let zone = number(matches, INTO)?;
+    let zones = image.geometry().zones();
+    if zone >= zones {
+        let last = zones.saturating_sub(1);
+        let told = format!(in alloc; "--into {zone}: the image has zones 0 to {last}");
+        return Err(refused(told));
+    }
+    if zone == source {
+        let told = format!(in alloc; "--into {zone}: the zone is asked about; name another");
+        return Err(refused(told));
+    }
+    if !appends {
+        let told = format!(in alloc; "--into {zone}: rows are kept in a zone, and tallies aren't; ask without --into");
+        return Err(refused(told));
+    }
+    Ok(zone)
 }
 
 /// The first zone that serves.

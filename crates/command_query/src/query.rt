@@ -1,12 +1,13 @@
 //! The command `query`: a question about the records of a zone.
 
-ghost use Rattle.std.specs.Prelude.{◌≡◌, [], OnErr};
-ghost use Rattle.command_files.specs.Made.{MakesAtMostOne};
-ghost use Rattle.command_query.specs.Files.{program_file};
+ghost use Rattle.std.specs.Prelude.{◌≡◌, [], OnErr, OnOk};
+ghost use Rattle.command_files.specs.Made.{KeepsOthers, MakesAtMost, MakesAtMostOne};
+ghost use Rattle.command_images.specs.Images.{image_of};
+ghost use Rattle.command_query.specs.Files.{AsksNoFile, program_file};
 
 use crate::answering::{Plan, answer, blocks_of_run};
 use crate::commands::AskedDevice;
-use crate::destination::destination_for;
+use crate::destination::{INTO, destination_for};
 use crate::explained::explained;
 use crate::layout::{RecordLayout, load};
 use crate::parts::{Part, parts_of};
@@ -18,11 +19,11 @@ use crate::wanted::{COUNT, GREATEST, LEAST, SELECT, SUM, Wanted, wanted_of};
 use clap::ArgMatches;
 use command_files::arguments::{ARGUMENT_OPTION, RUN_ARGUMENT, number, required};
 use command_files::{Counted, Failure, Files, Shown, printed, write};
+use command_images::image_file::{self, IMAGE};
 use command_images::device_file;
-use command_images::image_file::IMAGE;
 use command_words::{Argument, Takes, Words};
 use image_store::Image;
-use runner::Device;
+use interval_domain::Intervals;
 use std::alloc::Global;
 use std::io::Write;
 
@@ -178,6 +179,13 @@ pub static WORDS: Words = Words {
             help: "Print the bytes of the records",
         },
         Argument {
+            id: INTO,
+            long: INTO,
+            short: None,
+            takes: Takes::Optional("ZONE"),
+            help: "Keep the records that match in this zone of the image, as the device appends them",
+        },
+        Argument {
             id: EXPLAIN,
             long: EXPLAIN,
             short: None,
@@ -195,9 +203,9 @@ pub static WORDS: Words = Words {
     one_of: &[],
 };
 
-/// Asks the question that the words ask of the device that the image file stands for, in memory, and prints the answer. Where a program
-/// is wanted, it makes at most one file; else it makes none, and each file has the bytes that it had. What is noted goes to `err`; where
-/// this fails, nothing does.
+/// Asks the question that the words ask of the device that the image file stands for, in memory, and prints the answer. Where its program
+/// is wanted, or a zone is to keep the answer, it makes at most one file; else it makes none, and each file has the bytes that it had.
+/// What is noted goes to `err`; where this fails, nothing does.
 ///
 /// # Errors
 ///
@@ -211,8 +219,8 @@ pub fn query<'a, F: Files, O: Write, E: Write>(
     err: &mut E,
 ) -> Result<(), Failure<'a>>
     ensures one { MakesAtMostOne (F.made files.old) (F.made files.new) }
-    ensures unmade { program_file matches.now ≡ [] → F.made files.new ≡ F.made files.old }
-    ensures unchanged { program_file matches.now ≡ [] → F.contents files.new ≡ F.contents files.old }
+    ensures unmade { AsksNoFile matches.now → F.made files.new ≡ F.made files.old }
+    ensures unchanged { AsksNoFile matches.now → F.contents files.new ≡ F.contents files.old }
     ensures kept { OnErr result (F.made files.new ≡ F.made files.old) }
     ensures contents { OnErr result (F.contents files.new ≡ F.contents files.old) }
     ensures unnoted { OnErr result (E.contents err.new ≡ E.contents err.old) }
@@ -221,10 +229,15 @@ pub fn query<'a, F: Files, O: Write, E: Write>(
     let layout = load(alloc, required(matches, LAYOUT), files)?;
     let wanted = wanted_of(alloc, matches, &layout)?;
     check_form(alloc, form, &wanted)?;
-    let device = device_file::load_copy(alloc, required(matches, IMAGE), files)?;
-    let plan = planned(alloc, matches, &layout, wanted, device.image())?;
-    let request = Request { form, layout, plan };
-    ask(alloc, matches, &request, device, files, out, err)
+    let request = Request {
+        form,
+        layout,
+        wanted,
+    };
+    if required(matches, INTO).is_empty() || is_only_told(matches) {
+        return ask_copy(alloc, matches, request, files, out, err);
+    }
+    ask_image(alloc, matches, request, files, out, err)
 }
 
 /// What is asked.
@@ -234,16 +247,20 @@ struct Request {
     form: Form,
     /// The layout of the records.
     layout: RecordLayout,
-    /// How the question is asked.
-    plan: Plan,
+    /// What is printed.
+    wanted: Wanted,
 }
 
-/// Asks a question of a device, and prints the answer; or prints how it is understood; or writes its program.
-fn ask<'a, F: Files, O: Write, E: Write>(
+/// Do the words ask for what is known of the question, and not for its answer?
+fn is_only_told(matches: &ArgMatches<'_>) -> bool {
+    required(matches, EXPLAIN) == "true" || !required(matches, PROGRAM).is_empty()
+}
+
+/// Asks a question of a device in memory, and prints the answer; or prints how it is understood; or writes its program.
+fn ask_copy<'a, F: Files, O: Write, E: Write>(
     alloc: Global,
     matches: &ArgMatches<'a>,
-    request: &Request,
-    device: Box<Device>,
+    request: Request,
     files: &mut F,
     out: &mut O,
     err: &mut E,
@@ -255,9 +272,15 @@ fn ask<'a, F: Files, O: Write, E: Write>(
     ensures contents { OnErr result (F.contents files.new ≡ F.contents files.old) }
     ensures unnoted { OnErr result (E.contents err.new ≡ E.contents err.old) }
 {
-    let plan = &request.plan;
+    let Request {
+        form,
+        layout,
+        wanted,
+    } = request;
+    let device = device_file::load_copy(alloc, required(matches, IMAGE), files)?;
+    let plan = planned(alloc, matches, &layout, wanted, device.image())?;
     if required(matches, EXPLAIN) == "true" {
-        let text = explained(alloc, &request.layout, plan)?;
+        let text = explained(alloc, &layout, &plan)?;
         return printed(out.write_all(text.as_bytes()));
     }
     let path = required(matches, PROGRAM);
@@ -265,8 +288,39 @@ fn ask<'a, F: Files, O: Write, E: Write>(
         return write_program(alloc, path, plan.parts.as_slice(), files, out);
     }
     let mut asked = AskedDevice::new(alloc, device)?;
-    answer(alloc, &mut asked, plan, request.form, out)?;
-    note_runs(plan, err);
+    answer(alloc, &mut asked, &plan, form, out)?;
+    note_runs(&plan, err);
+    Ok(())
+}
+
+/// Asks a question of the device of an image, prints the answer, and saves the image, of which a zone has it then.
+fn ask_image<'a, F: Files, O: Write, E: Write>(
+    alloc: Global,
+    matches: &ArgMatches<'a>,
+    request: Request,
+    files: &mut F,
+    out: &mut O,
+    err: &mut E,
+) -> Result<(), Failure<'a>>
+    ensures one { MakesAtMost (image_of matches.now) (F.made files.old) (F.made files.new) }
+    ensures others { OnOk result (KeepsOthers (image_of matches.now) (F.contents files.old) (F.contents files.new)) }
+    ensures kept { OnErr result (F.made files.new ≡ F.made files.old) }
+    ensures contents { OnErr result (F.contents files.new ≡ F.contents files.old) }
+    ensures unnoted { OnErr result (E.contents err.new ≡ E.contents err.old) }
+{
+    let Request {
+        form,
+        layout,
+        wanted,
+    } = request;
+    let path = required(matches, IMAGE);
+    let device = device_file::load_to_replace::<Intervals, F>(alloc, path, files)?;
+    let plan = planned(alloc, matches, &layout, wanted, device.image())?;
+    image_file::check_place(path, files)?;
+    let mut asked = AskedDevice::new(alloc, device)?;
+    answer(alloc, &mut asked, &plan, form, out)?;
+    image_file::save_changes(asked.image(), path, files)?;
+    note_runs(&plan, err);
     Ok(())
 }
 
@@ -285,7 +339,7 @@ fn planned<'a>(
     let records = question.count;
     let parts = parts_of(alloc, &mut question, geometry.block())?;
     let appends = question.emitted.is_some();
-    let destination = destination_for(alloc, image, source.zone, appends)?;
+    let destination = destination_for(alloc, matches, image, source.zone, appends)?;
     let block = geometry.block();
     let blocks = blocks_of_run(block, parts.as_slice(), appends, geometry.capacity());
     Ok(Plan {
@@ -298,6 +352,7 @@ fn planned<'a>(
         parts,
         destination,
         destination_lba: first_of(destination, geometry.size()),
+        is_kept: !required(matches, INTO).is_empty(),
         blocks_of_run: blocks,
     })
 }
