@@ -180,6 +180,42 @@ A journal is asked as an image is, and the file stays as it is.
   $ cmp journal journal.before
   $ cmp orders.img before
 
+The answer is kept in a zone of the image, in blocks as the device appends them, where one is named.
+
+  $ cp orders.img kept.img
+  $ kept() { zscli query kept.img --zone 0 --layout orders.layout --where 'region == 3 && price > 60000' --select number "$@"; }
+  $ kept --into 2
+  number
+  9
+  24
+  34
+  49
+  59
+  $ zscli zones kept.img
+  0 implicit 4
+  1 empty 0
+  2 explicit 1
+  3 empty 0
+  $ tail -c 512 kept.img > kept.bin
+  $ zscli unpack kept.bin --block 512
+  0900
+  1800
+  2200
+  3100
+  3b00
+  $ kept --into 0
+  --into 0: the zone is asked about; name another
+  question refused
+  [3]
+  $ kept --into 4
+  --into 4: the image has zones 0 to 3
+  question refused
+  [3]
+  $ zscli query kept.img --zone 0 --layout orders.layout --where 'region == 3' --count --into 2
+  --into 2: rows are kept in a zone, and tallies aren't; ask without --into
+  question refused
+  [3]
+
 What isn't understood is refused, with the column and what is possible there.
 
   $ query --where 'region = 3'
