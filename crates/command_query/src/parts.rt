@@ -40,7 +40,9 @@ pub(crate) fn parts_of<'a>(
             return Ok(parts);
         }
     }
-    let told = format!(in alloc; "the question needs more than {PROGRAM_SLOTS} programs of {MOST_SLOTS} slots, each for a part of a block's {count} records; compare fewer fields or select fewer bytes");
+    let told = format!(in alloc;
+        "the question needs more than {PROGRAM_SLOTS} programs of {MOST_SLOTS} slots, each for a part of a block's {count} records; compare fewer fields or select fewer bytes"
+    );
     Err(refused(told))
 }
 
@@ -103,8 +105,9 @@ fn part_of<'a>(
 fn most_emitted(question: &Question) -> u32 {
     match question.emitted {
         Some(range) => {
-            u32::from(question.count)
-                .saturating_mul(FRAME_LENGTH_BYTES as u32 + u32::from(range.size))
+            u32::from(question.count).saturating_mul(
+                FRAME_LENGTH_BYTES as u32 + u32::from(range.size),
+            )
         }
         None => 0,
     }
