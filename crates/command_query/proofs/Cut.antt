@@ -1,6 +1,7 @@
 -- The value of a field in bytes that were cut from a record.
-use Rattle.std.proofs.Common.{◌≡◌, ℕ, ℤ, ◌+◌, ◌-◌, ◌≤◌, List, length, length-drop, take, drop, to_z, of_z, w128, FitsSigned, ap, subst, sym, ◌∙◌, arith}
+use Rattle.std.proofs.Common.{◌≡◌, ℕ, ℤ, ◌+◌, ◌-◌, ◌≤◌, List, length, length-drop, take, drop, to_z, of_z, FitsSigned, ap, subst, sym, ◌∙◌, arith}
 use Rattle.std.proofs.lemmas.Int.{to_z-of_z}
+use Rattle.std.specs.Int.{w128}
 use Rattle.std.proofs.lemmas.List.{drop-drop, drop-take, length-take, take_all}
 use Rattle.byteorder.specs.Endian.{big_number, little_number}
 use Rattle.byteorder.specs.Numbers.{big_from-take, little_from-take}
