@@ -1,6 +1,7 @@
 -- The value of a field in bytes that were cut from a record.
-use Rattle.std.proofs.Common.{◌≡◌, ℕ, ℤ, ◌+◌, ◌-◌, ◌≤◌, List, length, length-drop, take, drop, to_z, of_z, w128, FitsSigned, ap, subst, sym, ◌∙◌, arith}
+use Rattle.std.proofs.Common.{◌≡◌, ℕ, ℤ, ◌+◌, ◌-◌, ◌≤◌, List, length, length-drop, take, drop, to_z, of_z, FitsSigned, ap, subst, sym, ◌∙◌, arith}
 use Rattle.std.proofs.lemmas.Int.{to_z-of_z}
+use Rattle.std.specs.Int.{w128}
 use Rattle.std.proofs.lemmas.List.{drop-drop, drop-take, length-take, take_all}
 use Rattle.byteorder.specs.Endian.{big_number, little_number}
 use Rattle.byteorder.specs.Numbers.{big_from-take, little_from-take}
@@ -31,7 +32,7 @@ value_in_bytes from f bytes number at lies is r size e =
     let there : from + (f.offset - from) ≡ f.offset = omega arith in
     is ∙ ap (λ (b : List ℕ). signed_by f.sign (size_of f.size) (number_of f.order (size_of f.size) (drop (f.offset - from) b))) e
     ∙ ap (signed_by f.sign (size_of f.size)) (number_is r from (f.offset - from) (size_of f.size) size inside f.order
-      ∙ ap (λ (k : ℕ). number_of f.order (size_of f.size) (drop k r)) there)
+    ∙ ap (λ (k : ℕ). number_of f.order (size_of f.size) (drop k r)) there)
 
 -- the same of all bytes from the field's first on, as they are passed
 pub value_in : (from first : ℕ) (f : Field) (bytes : List ℕ) (number : ℤ) → FitsSigned w128 number → from ≤ f.offset → first ≡ f.offset - from
@@ -40,7 +41,7 @@ pub value_in : (from first : ℕ) (f : Field) (bytes : List ℕ) (number : ℤ) 
     → IsValueIn from f bytes (to_z w128 (of_z w128 number))
 value_in from first f bytes number fits at there lies is =
     let whole : take (length bytes - first) (drop first bytes) ≡ drop first bytes =
-      take_all (length bytes - first) (drop first bytes) (omega (arith, length-drop first bytes)) in
+    take_all (length bytes - first) (drop first bytes) (omega (arith, length-drop first bytes)) in
     let spelled : number ≡ signed_by f.sign (size_of f.size) (number_of f.order (size_of f.size) (drop (f.offset - from) bytes)) =
-      is ∙ ap (λ (b : List ℕ). signed_by f.sign (size_of f.size) (number_of f.order (size_of f.size) b)) (whole ∙ ap (λ (k : ℕ). drop k bytes) there) in
+    is ∙ ap (λ (b : List ℕ). signed_by f.sign (size_of f.size) (number_of f.order (size_of f.size) b)) (whole ∙ ap (λ (k : ℕ). drop k bytes) there) in
     subst (IsValueIn from f bytes) (sym (to_z-of_z w128 number fits)) (value_in_bytes from f bytes number at (omega arith) spelled)

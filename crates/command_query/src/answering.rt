@@ -59,12 +59,7 @@ const MOST_OF_RUN: u32 = 16 * 1024 * 1024;
 
 /// How many blocks a run goes over. Where rows come of several programs it is one, so that they come in the order of the blocks. Else it
 /// is as many as the zone has room for, whatever matches.
-pub(crate) fn blocks_of_run(
-    block: BlockSize,
-    parts: &[Part],
-    is_rows: bool,
-    capacity: u32,
-) -> u32 {
+pub(crate) fn blocks_of_run(block: BlockSize, parts: &[Part], is_rows: bool, capacity: u32) -> u32 {
     if is_rows && parts.len() > 1 {
         return 1;
     }

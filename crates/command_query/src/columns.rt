@@ -13,15 +13,9 @@ pub(crate) enum Kind {
     /// A number.
     Number(Field),
     /// So many bytes from an offset on, which are text.
-    Text {
-        offset: u16,
-        size: u16,
-    },
+    Text { offset: u16, size: u16 },
     /// So many bytes from an offset on.
-    Bytes {
-        offset: u16,
-        size: u16,
-    },
+    Bytes { offset: u16, size: u16 },
 }
 
 /// A named part of each record.

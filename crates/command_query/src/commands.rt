@@ -76,7 +76,11 @@ impl AskedDevice {
             select_all: false,
         });
         let reply = self.submit(command, &[]);
-        succeeded(alloc, "no zone can be opened for the answer, so finish or reset one that is open or closed", reply)?;
+        succeeded(
+            alloc,
+            "no zone can be opened for the answer, so finish or reset one that is open or closed",
+            reply,
+        )?;
         Ok(())
     }
 
@@ -155,7 +159,8 @@ impl AskedDevice {
         requires { program_length command ≤ MOST_TRANSFER }
     {
         let entry = Entry::encode(command, 1);
-        self.device.submit(1, &entry, input, self.output.as_mut_slice())
+        self.device
+            .submit(1, &entry, input, self.output.as_mut_slice())
     }
 
     /// The first bytes of the data that went with the last reply.

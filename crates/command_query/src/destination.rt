@@ -30,7 +30,9 @@ pub(crate) fn destination_for<'a>(
     match destination_in(image, source, appends) {
         Some(zone) => Ok(zone),
         None => {
-            let told = format!(in alloc; "no zone is Empty for the answer; reset one whose blocks aren't wanted any more, as by `zscli entry reset`");
+            let told = format!(in alloc;
+                "no zone is Empty for the answer; reset one whose blocks aren't wanted any more, as by `zscli entry reset`"
+            );
             Err(refused(told))
         }
     }
@@ -75,9 +77,7 @@ fn destination_in(image: &Image, source: u32, appends: bool) -> Option<u32> {
 /// Does a zone serve?
 fn serves(image: &Image, zone: u32, appends: bool) -> bool {
     match image.zones().get(zone as usize) {
-        Some(zone) => {
-            zone.state() == ZoneState::Empty || (!appends && zone.state().is_open())
-        }
+        Some(zone) => { zone.state() == ZoneState::Empty || (!appends && zone.state().is_open()) }
         None => false,
     }
 }

@@ -82,8 +82,14 @@ fn push_work(plan: &Plan, text: &mut String) -> Result<(), AllocError> {
     }
     let room = Counted(room, "block");
     let destination = plan.destination;
-    writeln!(text, "room: {room} of zone {destination}, if all records match")?;
+    writeln!(
+        text,
+        "room: {room} of zone {destination}, if all records match"
+    )?;
     let runs = Counted(plan.runs(), "run");
-    let each = Counted(u64::from(plan.blocks_of_run.min(plan.source.blocks)), "block");
+    let each = Counted(
+        u64::from(plan.blocks_of_run.min(plan.source.blocks)),
+        "block",
+    );
     writeln!(text, "runs: {runs}, each over at most {each}")
 }

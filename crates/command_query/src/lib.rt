@@ -17,8 +17,7 @@ mod refused;
 mod rows;
 mod source;
 mod tallied;
-mod understood;
-mod wanted;
-
 #[cfg(test)]
 mod tests;
+mod understood;
+mod wanted;

@@ -40,7 +40,9 @@ pub(crate) fn parts_of<'a>(
             return Ok(parts);
         }
     }
-    let told = format!(in alloc; "the question needs more than {PROGRAM_SLOTS} programs of {MOST_SLOTS} slots, each for a part of a block's {count} records; compare fewer fields or select fewer bytes");
+    let told = format!(in alloc;
+        "the question needs more than {PROGRAM_SLOTS} programs of {MOST_SLOTS} slots, each for a part of a block's {count} records; compare fewer fields or select fewer bytes"
+    );
     Err(refused(told))
 }
 
@@ -102,10 +104,12 @@ fn part_of<'a>(
 /// The bytes that are emitted for a block whose records all match.
 fn most_emitted(question: &Question) -> u32 {
     match question.emitted {
-        Some(range) => {
-            u32::from(question.count)
-                .saturating_mul(FRAME_LENGTH_BYTES as u32 + u32::from(range.size))
-        }
+        Some(range) => u32::from(question.count).saturating_mul(framed(range.size)),
         None => 0,
     }
+}
+
+/// The bytes of a frame with a record of so many.
+fn framed(size: u16) -> u32 {
+    FRAME_LENGTH_BYTES as u32 + u32::from(size)
 }

@@ -366,20 +366,18 @@ fn form_asked<'a>(alloc: Global, matches: &ArgMatches<'a>) -> Result<Form, Failu
         (_, false, false) => Ok(Form::Lines),
         (false, true, false) => Ok(Form::Json),
         (false, false, true) => Ok(Form::Raw),
-        _ => Err(refused(format!(in alloc; "--csv, --json and --raw are three forms of one answer; ask for one"))),
+        _ => Err(refused(format!(in alloc;
+            "--csv, --json and --raw are three forms of one answer; ask for one"
+        ))),
     }
 }
 
 /// Refuses tallies as bytes.
-fn check_form<'a>(
-    alloc: Global,
-    form: Form,
-    wanted: &Wanted,
-) -> Result<(), Failure<'a>> {
+fn check_form<'a>(alloc: Global, form: Form, wanted: &Wanted) -> Result<(), Failure<'a>> {
     match (form, wanted) {
-        (Form::Raw, Wanted::Tallies(_)) => Err(refused(
-            format!(in alloc; "--raw prints the bytes of records, and a tally has none; ask without --raw"),
-        )),
+        (Form::Raw, Wanted::Tallies(_)) => Err(refused(format!(in alloc;
+            "--raw prints the bytes of records, and a tally has none; ask without --raw"
+        ))),
         _ => Ok(()),
     }
 }
@@ -406,7 +404,9 @@ fn write_program<'a, F: Files, O: Write>(
         }
         _ => {
             let programs = parts.len();
-            let told = format!(in alloc; "--program: the question takes {programs} programs; select fewer bytes, or give the layout a `count` of fewer records");
+            let told = format!(in alloc;
+                "--program: the question takes {programs} programs; select fewer bytes, or give the layout a `count` of fewer records"
+            );
             Err(refused(told))
         }
     }

@@ -43,11 +43,15 @@ pub(crate) fn source_asked<'a>(
         return Err(refused(told));
     };
     if zone.state() == ZoneState::Offline {
-        let told = format!(in alloc; "--zone {number_of_zone}: the zone is offline, so that nothing of it can be read");
+        let told = format!(in alloc;
+            "--zone {number_of_zone}: the zone is offline, so that nothing of it can be read"
+        );
         return Err(refused(told));
     }
     if zone.written() == 0 {
-        let told = format!(in alloc; "--zone {number_of_zone}: no block of the zone is written; `zscli zones` lists what is");
+        let told = format!(in alloc;
+            "--zone {number_of_zone}: no block of the zone is written; `zscli zones` lists what is"
+        );
         return Err(refused(told));
     }
     let blocks = blocks_asked(alloc, matches, zone.written())?;
@@ -77,7 +81,9 @@ fn blocks_asked<'a>(
     let asked = number(matches, BLOCKS)?;
     if asked == 0 || asked > written {
         let most = Counted(u64::from(written), "block");
-        let told = format!(in alloc; "--blocks {asked}: {most} of the zone are written; ask of 1 to {written}");
+        let told = format!(in alloc;
+            "--blocks {asked}: {most} of the zone are written; ask of 1 to {written}"
+        );
         return Err(refused(told));
     }
     Ok(asked)

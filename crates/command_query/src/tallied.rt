@@ -25,7 +25,11 @@ pub(crate) fn answer_tallies<'a>(
             run(alloc, asked, plan, index, stretch)?;
             let length = asked.result(alloc, slot_of(index))?;
             let words = asked.data(length);
-            add_words(plan.question.tallies.as_slice(), words, totals.as_mut_slice());
+            add_words(
+                plan.question.tallies.as_slice(),
+                words,
+                totals.as_mut_slice(),
+            );
         }
     }
     push_tallies(tallies, totals.as_slice(), printing)?;
@@ -50,7 +54,11 @@ fn push_tallies(
             others = others.saturating_add(1);
             word_of(totals, others)
         };
-        printing.push_cell(index, named.name.as_str(), tallied(named.tally, word, count))?;
+        printing.push_cell(
+            index,
+            named.name.as_str(),
+            tallied(named.tally, word, count),
+        )?;
     }
     printing.end_row(&[])
 }

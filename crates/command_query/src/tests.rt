@@ -47,7 +47,8 @@ fn rows_are_lines(rt: HostRuntime) -> Result<(), Fail> {
 #[test]
 fn rows_are_json(rt: HostRuntime) -> Result<(), Fail> {
     let printed = rows(rt.alloc(), Form::Json)?;
-    let row = b"[{\"a b\":-5,\"c\":\"x \\\"\\\\\\u000ay\",\"d\":\"0x00ff\",\"e\":null},\n{\"a b\":-5,\"c\":\"x \\\"\\\\\\u000ay\",\"d\":\"0x00ff\",\"e\":null}]\n";
+    let row =
+        b"[{\"a b\":-5,\"c\":\"x \\\"\\\\\\u000ay\",\"d\":\"0x00ff\",\"e\":null},\n{\"a b\":-5,\"c\":\"x \\\"\\\\\\u000ay\",\"d\":\"0x00ff\",\"e\":null}]\n";
     expect(&rt, &printed, row.as_slice());
     Ok(())
 }

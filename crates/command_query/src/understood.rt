@@ -89,7 +89,9 @@ fn told_of_word(
     match layout.column(name) {
         Some(found) => {
             let offset = found.kind.offset();
-            format!(in alloc; "--where, column {column}: `{name}` is no number; its bytes are compared as in bytes@{offset} == 0x6162")
+            format!(in alloc;
+                "--where, column {column}: `{name}` is no number; its bytes are compared as in bytes@{offset} == 0x6162"
+            )
         }
         None => format!(in alloc; "--where, {fault}"),
     }
@@ -121,18 +123,16 @@ fn records_of_block<'a>(
     };
     if count == 0 || count > fitting {
         let end = first.saturating_add(count.max(1).saturating_mul(size));
-        let told = format!(in alloc; "the layout's records end at byte {end} of a block, and a block of this image has {bytes}; at most {fitting} fit");
+        let told = format!(in alloc;
+            "the layout's records end at byte {end} of a block, and a block of this image has {bytes}; at most {fitting} fit"
+        );
         return Err(refused(told));
     }
     Ok(count.min(0xFFFF) as u16)
 }
 
 /// Refuses a condition of which a field or bytes pass the record.
-fn check_condition<'a>(
-    alloc: Global,
-    size: u16,
-    condition: &Predicate,
-) -> Result<(), Failure<'a>> {
+fn check_condition<'a>(alloc: Global, size: u16, condition: &Predicate) -> Result<(), Failure<'a>> {
     match condition {
         Predicate::Compare {
             field,
@@ -162,15 +162,12 @@ fn check_field<'a>(alloc: Global, size: u16, field: Field) -> Result<(), Failure
 }
 
 /// Refuses bytes that end after the record.
-fn check_end<'a>(
-    alloc: Global,
-    size: u16,
-    offset: u16,
-    bytes: u16,
-) -> Result<(), Failure<'a>> {
+fn check_end<'a>(alloc: Global, size: u16, offset: u16, bytes: u16) -> Result<(), Failure<'a>> {
     let end = u32::from(offset) + u32::from(bytes);
     if end > u32::from(size) {
-        let told = format!(in alloc; "--where: what is at offset {offset} ends at byte {end}, and a record of the layout at {size}");
+        let told = format!(in alloc;
+            "--where: what is at offset {offset} ends at byte {end}, and a record of the layout at {size}"
+        );
         return Err(refused(told));
     }
     Ok(())

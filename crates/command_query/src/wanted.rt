@@ -102,7 +102,9 @@ pub(crate) fn wanted_of<'a>(
         return Ok(Wanted::Rows(columns_asked(alloc, select, layout)?));
     }
     if !select.is_empty() {
-        let told = format!(in alloc; "--select asks for a row of each record and --count, --sum, --least and --greatest for one of all; ask for either");
+        let told = format!(in alloc;
+            "--select asks for a row of each record and --count, --sum, --least and --greatest for one of all; ask for either"
+        );
         return Err(refused(told));
     }
     Ok(Wanted::Tallies(tallies))
@@ -158,7 +160,10 @@ fn unknown(
     name: &str,
     layout: &RecordLayout,
 ) -> Result<String, AllocError> {
-    let mut told = format!(in alloc; "--{option}: the layout has no field `{}`; it has ", Shown(name))?;
+    let mut told = format!(in alloc;
+        "--{option}: the layout has no field `{}`; it has ",
+        Shown(name)
+    )?;
     for (number, column) in layout.columns.iter().enumerate() {
         if number > 0 {
             told.push_str(", ")?;
@@ -181,13 +186,22 @@ fn tallies_asked<'a>(
         add(&mut tallies, NamedTally { name, tally })?;
     }
     if let Some(field) = field_tallied(alloc, matches, SUM, layout)? {
-        add(&mut tallies, named_tally(alloc, matches, SUM, Tally::Sum(field))?)?;
+        add(
+            &mut tallies,
+            named_tally(alloc, matches, SUM, Tally::Sum(field))?,
+        )?;
     }
     if let Some(field) = field_tallied(alloc, matches, LEAST, layout)? {
-        add(&mut tallies, named_tally(alloc, matches, LEAST, Tally::Least(field))?)?;
+        add(
+            &mut tallies,
+            named_tally(alloc, matches, LEAST, Tally::Least(field))?,
+        )?;
     }
     if let Some(field) = field_tallied(alloc, matches, GREATEST, layout)? {
-        add(&mut tallies, named_tally(alloc, matches, GREATEST, Tally::Greatest(field))?)?;
+        add(
+            &mut tallies,
+            named_tally(alloc, matches, GREATEST, Tally::Greatest(field))?,
+        )?;
     }
     Ok(tallies)
 }
@@ -221,7 +235,9 @@ fn field_tallied<'a>(
     match column.kind {
         Kind::Number(field) if field.sign == Sign::Unsigned => Ok(Some(field)),
         _ => {
-            let told = format!(in alloc; "--{option} {name}: only unsigned numbers are tallied, of the types u8, u16, u32 and u64");
+            let told = format!(in alloc;
+                "--{option} {name}: only unsigned numbers are tallied, of the types u8, u16, u32 and u64"
+            );
             Err(refused(told))
         }
     }

@@ -1,1 +1,2 @@
 mod Slots
+mod Faultless

@@ -1,5 +1,5 @@
 -- A question's program has slots, and a question of some blocks can be asked of larger ones.
-use Rattle.std.proofs.Common.{◌≤◌, length, arith}
+use Rattle.std.proofs.Common.{ℕ, ◌≤◌, length, arith}
 use Rattle.program_interface.specs.declared.block_size.TheConstants.{LARGEST_BLOCK}
 use Rattle.record_questions.specs.Asked.{IsQuestion}
 use Rattle.record_questions.specs.Code.{question_program}

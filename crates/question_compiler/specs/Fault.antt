@@ -38,6 +38,10 @@ IsFaultOf q sizes (fault.EmittedPassRecord end size) = EndsAt q.emitted end × (
 IsFaultOf q sizes (fault.TooManyTallies count) = (count ≡ length q.tallies.items) × (SCRATCH_BYTES < 8 * count)
 IsFaultOf q sizes fault.NoQuestion = ¬ IsQuestion sizes.block q
 IsFaultOf q sizes (fault.OverLimit needed limit) = (needed ≡ most_emitted q) × (limit ≡ sizes.limit) × (limit < needed)
-IsFaultOf q sizes (fault.TooLong count) = (count ≡ counted (length (question_program q))) × (MOST_SLOTS < count)
+IsFaultOf q sizes (fault.TooLong count) = (count ≡ counted (length (question_program q))) × (MOST_SLOTS < length (question_program q))
 IsFaultOf q sizes (fault.Refused why) = refusal intervals (question_program q) sizes ≡ Some why
 IsFaultOf q sizes fault.Memory = Unit {0}
+
+-- none of them is so, but that memory may lack
+abbrev pub HasNoFault : Question → Sizes → Type 0
+HasNoFault q sizes = (why : QuestionFault) → IsFaultOf q sizes why → why ≡ fault.Memory

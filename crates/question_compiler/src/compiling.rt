@@ -3,7 +3,7 @@
 ghost use Rattle.std.specs.Prelude.{◌≡◌, ◌≤◌, IfOk, IfErr};
 ghost use Rattle.instruction_set.specs.Program.{slots_of};
 ghost use Rattle.question_compiler.specs.Compiled.{IsCompiled};
-ghost use Rattle.question_compiler.specs.Fault.{IsFaultOf, most_emitted};
+ghost use Rattle.question_compiler.specs.Fault.{HasNoFault, IsFaultOf, most_emitted};
 ghost use Rattle.program_interface.specs.RunSizes.{Sizes};
 ghost use Rattle.program_interface.specs.declared.block_size.TheConstants.{LARGEST_BLOCK};
 ghost use Rattle.record_questions.specs.Asked.{IsQuestion};
@@ -40,6 +40,7 @@ fn slots(alloc: Global, code: &[Instruction]) -> Result<Vec<Option<Instruction>>
 fn fitted(question: &Question, sizes: RunSizes) -> Result<(), QuestionFault>
     ensures asked { IfOk result (λ done. IsQuestion sizes.block question.now) }
     ensures largest { IfOk result (λ done. IsQuestion LARGEST_BLOCK question.now) }
+    ensures within { IfOk result (λ done. most_emitted question.now ≤ sizes.limit) }
     ensures failed { IfErr result (IsFaultOf question.now sizes) }
 {
     let block = sizes.block().bytes();
@@ -103,7 +104,8 @@ fn program(alloc: Global, question: &Question) -> Result<Program, QuestionFault>
 /// # Errors
 ///
 /// What doesn't fit: the records or the emitted bytes, the tallies, a field or a number, what may be emitted for a block, the slots of
-/// the program; the refusal of the verifier; or want of memory.
+/// the program; the refusal of the verifier; or want of memory. Where none of them holds it gives the program.
+#[tactic(auto, using(crate::proofs::Faultless::no_fault))]
 pub fn compile(
     alloc: Global,
     question: &Question,
@@ -111,6 +113,7 @@ pub fn compile(
 ) -> Result<Verified<Intervals>, QuestionFault>
     ensures compiled { IfOk result (λ v. IsCompiled question.now sizes (program_of v)) }
     ensures sizes { IfOk result (λ v. sizes_of v ≡ sizes) }
+    ensures faultless { IfOk result (λ v. HasNoFault question.now sizes) }
     ensures failed { IfErr result (IsFaultOf question.now sizes) }
 {
     fitted(question, sizes)?;

@@ -1,4 +1,6 @@
-use crate::{QuestionFault, compile};
+ghost use Rattle.std.specs.Prelude.{◌<◌};
+
+use crate::compile;
 use instruction_set::{Instruction, Operation, Register, Relation, Size, Source, Width};
 use program_interface::{BlockSize, EMIT, RunSizes};
 use record_questions::{
@@ -69,64 +71,58 @@ fn is_asked(rt: &impl Abort, alloc: Global, wanted: Predicate, count: usize) -> 
     Ok(())
 }
 
-#[test]
-fn each_comparison_is_accepted(rt: HostRuntime) -> Result<(), Fail> {
-    let alloc = rt.alloc();
+/// Three slots before the records, one after them, and of each record the four that emit it beside those that test it.
+fn comparisons_are_asked(rt: &impl Abort, alloc: Global) -> Result<(), Fail> {
     let signed = Field {
         size: Size::HalfWord,
         ..WIDE
     };
     let other = Field { offset: 0, ..WIDE };
-    // Three slots before the records, one after them, and of each record the four that emit it beside those that test it.
     let least = Operand::Number(-0x8000_0000_0000_0000);
     is_asked(
-        &rt,
+        rt,
         alloc,
         compare(WORD, Comparison::Less, Operand::Number(5)),
         4 + 32 * (4 + 2),
     )?;
     is_asked(
-        &rt,
+        rt,
         alloc,
         compare(signed, Comparison::Less, Operand::Number(-5)),
         4 + 32 * (4 + 4),
     )?;
     is_asked(
-        &rt,
+        rt,
         alloc,
         compare(WIDE, Comparison::Greater, least),
         4 + 32 * (4 + 5),
     )?;
     is_asked(
-        &rt,
+        rt,
         alloc,
         compare(WORD, Comparison::Equal, Operand::Argument),
         4 + 32 * (4 + 2),
     )?;
     is_asked(
-        &rt,
+        rt,
         alloc,
         compare(WIDE, Comparison::NotEqual, Operand::Field(other)),
         4 + 32 * (4 + 5),
     )
 }
 
-#[test]
-fn each_predicate_is_accepted(rt: HostRuntime) -> Result<(), Fail> {
-    let alloc = rt.alloc();
+/// The chunks of 8, 2 and 1 take 4, 2 and 2 slots, and the jump over the rest of the condition one.
+fn predicates_are_asked(rt: &impl Abort, alloc: Global) -> Result<(), Fail> {
     let first = bytes(alloc, 1, "of eleven !")?;
     let second = compare(WORD, Comparison::LessOrEqual, Operand::Argument);
     let either = Predicate::Or(Box::new(alloc, first)?, Box::new(alloc, second)?);
     let third = compare(WIDE, Comparison::GreaterOrEqual, Operand::Number(0));
     let other = Predicate::Not(Box::new(alloc, third)?);
     let both = Predicate::And(Box::new(alloc, either)?, Box::new(alloc, other)?);
-    // The chunks of 8, 2 and 1 take 4, 2 and 2 slots, and the jump over the rest of the condition one.
-    is_asked(&rt, alloc, both, 4 + 32 * (4 + (4 + 2 + 2 + 1) + 2 + 3))
+    is_asked(rt, alloc, both, 4 + 32 * (4 + (4 + 2 + 2 + 1) + 2 + 3))
 }
 
-#[test]
-fn each_tally_is_accepted(rt: HostRuntime) -> Result<(), Fail> {
-    let alloc = rt.alloc();
+fn tallies_are_asked(rt: &impl Abort, alloc: Global) -> Result<(), Fail> {
     let wanted = compare(WORD, Comparison::NotEqual, Operand::Number(0));
     let mut question = of_full_blocks(alloc, wanted);
     question.emitted = None;
@@ -139,6 +135,14 @@ fn each_tally_is_accepted(rt: HostRuntime) -> Result<(), Fail> {
     let slots = slots_of(alloc, &question)?;
     assert_eq!(rt; slots.len(), 4 + 32 * (2 + 3 + 4 + 7 + 5));
     Ok(())
+}
+
+#[test]
+fn questions_of_each_kind_are_accepted(rt: HostRuntime) -> Result<(), Fail> {
+    let alloc = rt.alloc();
+    comparisons_are_asked(&rt, alloc)?;
+    predicates_are_asked(&rt, alloc)?;
+    tallies_are_asked(&rt, alloc)
 }
 
 fn push(code: &mut Vec<Option<Instruction>>, instruction: Instruction) -> Result<(), Fail> {
@@ -157,9 +161,7 @@ fn arithmetic(operation: Operation, dst: u8, source: Source) -> Instruction
 }
 
 /// Counts and emits two bytes of a record whose word is greater than 7.
-fn push_record(code: &mut Vec<Option<Instruction>>, byte: i16) -> Result<(), Fail>
-    requires { byte < 512 }
-{
+fn push_record(code: &mut Vec<Option<Instruction>>, byte: u8) -> Result<(), Fail> {
     let count = Register::from_number(4);
     let scratch = Register::from_number(7);
     let block = Source::Register(Register::from_number(6));
@@ -169,7 +171,7 @@ fn push_record(code: &mut Vec<Option<Instruction>>, byte: i16) -> Result<(), Fai
             size: Size::Word,
             dst: count,
             src: Register::from_number(6),
-            offset: byte + 4,
+            offset: i16::from(byte) + 4,
         },
     )?;
     push(
@@ -241,20 +243,5 @@ fn a_program_is_as_worked_out_by_hand(rt: HostRuntime) -> Result<(), Fail> {
     push(&mut wanted, Instruction::Exit)?;
     let slots = slots_of(alloc, &question)?;
     assert!(rt; slots == wanted);
-    Ok(())
-}
-
-#[test]
-fn no_bytes_and_no_records_are_no_question(rt: HostRuntime) -> Result<(), Fail> {
-    let alloc = rt.alloc();
-    let question = of_full_blocks(alloc, bytes(alloc, 0, "")?);
-    let block = BlockSize::new(512).ok_or("no size of a block")?;
-    let sizes = RunSizes::new(block, 512).ok_or("no sizes")?;
-    assert!(rt;
-        matches!(
-            compile(alloc, &question, sizes),
-            Err(QuestionFault::NoQuestion)
-        )
-    );
     Ok(())
 }

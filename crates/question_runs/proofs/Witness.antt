@@ -144,6 +144,8 @@ module _ (ptr : Ptr) (alloc : Global) where
 
   is_question : IsQuestion 512 q
   is_question = record {
+    some_bytes = lit≤ tt;
+    some_records = lit≤ tt;
     inside = lit≤ tt;
     wanted = (lit≤ tt, tt);
     emitted = (lit≤ tt, lit≤ tt);

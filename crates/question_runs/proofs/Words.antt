@@ -16,7 +16,7 @@ use Rattle.device_meaning.specs.Judging.{IsSoundJudge, interval_judge}
 use Rattle.question_runs.proofs.Runs.{IsWhole, kept_all}
 use Rattle.question_runs.specs.Words.{ComesTo, HasWords, ResultsHaveWords, matches_of}
 use Rattle.record_questions.specs.Question.{matches, matching, records_in}
-use Rattle.record_questions.specs.Tallies.{TalliesAreTold, WordsAreTallied, tallied_of, tally_from}
+use Rattle.record_questions.specs.Tallies.{TalliesAreTotals, WordsAreTallied, tallied_of, tally_from}
 use Rattle.record_questions.specs.declared.question.Tally.{Tally}
 use Rattle.record_questions.specs.declared.question.Tally.TheVariants.{Count, Sum, Least, Greatest}
 use Rattle.record_questions.specs.declared.question.Question.{Question}
@@ -73,7 +73,7 @@ word_of_none i room =
 
 -- ---- words
 
-module _ (words : WordsAreTallied) (known : TalliesAreTold) where
+module _ (words : WordsAreTallied) (known : TalliesAreTotals) where
   comes_to : (t : Tally) (rs : List (List ℕ)) → AllByRecursion AreBytes rs → ComesTo t rs (tally_from t rs 0)
   comes_to Count rs are = known.count rs are
   comes_to (Sum f) rs are = known.sum f rs are
@@ -91,7 +91,7 @@ module _ (words : WordsAreTallied) (known : TalliesAreTold) where
       ∙ ap (tally_from t rs) (word_of_none i (omega (arith, few, inside))) in
       record { tallied = word; comes_to = subst (ComesTo t rs) (sym word) (comes_to t rs are) }
 
-pub results_have_words : WordsAreTallied → TalliesAreTold → IsSoundJudge interval_judge → ResultsHaveWords
+pub results_have_words : WordsAreTallied → TalliesAreTotals → IsSoundJudge interval_judge → ResultsHaveWords
 results_have_words words known sound s command q reached is =
     let source = source_blocks s.namespace command in
     let fine = reached_fine interval_judge sound s reached in

@@ -8,7 +8,7 @@ ghost use Rattle.question_runs.specs.Words.{ResultsHaveWords};
 use device_meaning::laws::domains_judge_soundly;
 use ebpf_decode::laws::spelled_is_decoded;
 use interval_domain::Intervals;
-use record_questions::laws::{answers_blocks, tallies_are_told, words_are_tallied};
+use record_questions::laws::{answers_blocks, tallies_are_totals, words_are_tallied};
 
 /// A Load that comes with the program that `compile` gives of a question, for the sizes that it was compiled for, is refused only for its
 /// data, its limit or its slot, or for want of memory.
@@ -33,7 +33,7 @@ pub fn results_have_words()
 {
     domains_judge_soundly::<Intervals>();
     words_are_tallied();
-    tallies_are_told();
+    tallies_are_totals();
 }
 
 /// In each state that events leave, and in which a slot has such a program: a Run of the slot that is admitted is answered, whatever

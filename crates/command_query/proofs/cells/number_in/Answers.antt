@@ -1,4 +1,5 @@
-use Rattle.std.proofs.Common.{◌≡◌, ◌+◌, ◌-◌, ◌≤◌, length, w128, FitsSigned, arith, rules}
+use Rattle.std.proofs.Common.{◌≡◌, ◌+◌, ◌-◌, ◌≤◌, length, FitsSigned, arith, rules}
+use Rattle.std.specs.Int.{w128}
 use Rattle.instruction_set.specs.Instruction.{size_of}
 use Rattle.command_query.proofs.Cut.{value_in}
 use Rattle.command_query.proofs.cells.number_in.Goals as goal
