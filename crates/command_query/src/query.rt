@@ -211,6 +211,7 @@ pub static WORDS: Words = Words {
 ///
 /// A file can't be read or is refused, the question can't be asked, the program can't be written, standard output fails, or memory is
 /// wanting.
+#[tactic(auto, using(crate::proofs::Makes::at_most_one))]
 pub fn query<'a, F: Files, O: Write, E: Write>(
     alloc: Global,
     matches: &ArgMatches<'a>,
