@@ -256,7 +256,9 @@ fn make_room<'a>(
     }
     if plan.is_kept {
         let zone = plan.destination;
-        let told = format!(in alloc; "--into {zone}: the zone lacks room for {blocks} blocks more, which the next run appends if all records match; name one that is Empty, or ask about fewer by --blocks");
+        let told = format!(in alloc;
+            "--into {zone}: the zone lacks room for {blocks} blocks more, which the next run appends if all records match; name one that is Empty, or ask about fewer by --blocks"
+        );
         return Err(refused(told));
     }
     asked.send(alloc, plan.destination_lba, Action::Reset)?;

@@ -58,7 +58,9 @@ fn named_zone<'a>(
         return Err(refused(told));
     }
     if !appends {
-        let told = format!(in alloc; "--into {zone}: rows are kept in a zone, and tallies aren't; ask without --into");
+        let told = format!(in alloc;
+            "--into {zone}: rows are kept in a zone, and tallies aren't; ask without --into"
+        );
         return Err(refused(told));
     }
     Ok(zone)
