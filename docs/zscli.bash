@@ -18,7 +18,7 @@ _zscli() {
         "zscli report") commands="" options="--json --map --color --help" ;;
         "zscli upgrade") commands="" options="--help" ;;
         "zscli exec") commands="" options="--profile --fail --stop --words --help" ;;
-        "zscli query") commands="" options="--zone --blocks --layout --where --argument --select --count --sum --least --greatest --csv --json --raw --explain --program --help" ;;
+        "zscli query") commands="" options="--zone --blocks --layout --where --argument --select --count --sum --least --greatest --csv --json --raw --into --explain --program --help" ;;
         "zscli serve") commands="" options="--frames --drain --durable --help" ;;
         "zscli fold") commands="" options="--salvage --help" ;;
         "zscli asm") commands="" options="--help" ;;

@@ -75,6 +75,7 @@ complete -c zscli -n '__zscli_begins query' -l greatest -x -d 'Print the greates
 complete -c zscli -n '__zscli_begins query' -l csv -d 'Print lines with commas, as without this'
 complete -c zscli -n '__zscli_begins query' -l json -d 'Print a JSON list of objects'
 complete -c zscli -n '__zscli_begins query' -l raw -d 'Print the bytes of the records'
+complete -c zscli -n '__zscli_begins query' -l into -x -d 'Keep the records that match in this zone of the image, as the device appends them'
 complete -c zscli -n '__zscli_begins query' -l explain -d 'Print how the question is understood, and what asking it takes'
 complete -c zscli -n '__zscli_begins query' -l program -r -F -d 'Write the program that asks the question'
 complete -c zscli -n '__zscli_begins query' -l help -d 'Print help'

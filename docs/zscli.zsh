@@ -119,6 +119,7 @@ _zscli_query() {
         '--csv[Print lines with commas, as without this]' \
         '--json[Print a JSON list of objects]' \
         '--raw[Print the bytes of the records]' \
+        '--into[Keep the records that match in this zone of the image, as the device appends them]:ZONE: ' \
         '--explain[Print how the question is understood, and what asking it takes]' \
         '--program[Write the program that asks the question]:FILE:_files' \
         '(- *)--help[Print help]'

@@ -45,7 +45,7 @@ const PROGRAM: &str = "program";
 const LONG_ABOUT: &str = "\
 Asks which records of a zone's blocks meet a condition, and prints a row of each, or tallies of them all. The question becomes a program; \
 a device in memory, with the zones of the image, runs it over the blocks, and what it appended to a free zone is read back. The image's \
-file stays as it is. Of a journal, which `serve --durable` makes of an image, the zones are as the events in it left them.
+file stays as it is, but for --into. Of a journal, which `serve --durable` makes of an image, the zones are as the events in it left them.
 
 The layout is a file of text. Its first line says how many bytes a record has, and, if need be, how many bytes of a block come before \
 the first record, and how many records of a block there are. Each other line has a field: its name, its type, and @ with the offset of \
@@ -71,6 +71,10 @@ objects; with --raw as bytes, from the first field that is selected to the end o
 With --explain nothing is asked: it prints how the question is understood, how many slots its program has, how many bytes that emits for a \
 block at most, how many blocks of the free zone are needed if all records match, and how many runs there are. With --program FILE \
 nothing is asked either: the program is written, and the words are printed that load it.
+
+With --into ZONE the records that match stay in this zone of the image, in blocks as the device appends them, which `zscli unpack` reads; \
+the rows are printed, and then the image is saved. The zone needs the room that all records would take if all matched. Where the question \
+is refused, or standard output fails, nothing is saved.
 
 A question that can't be asked is `question refused`, and a sentence says what to change.";
 
