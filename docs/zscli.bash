@@ -4,20 +4,21 @@ _zscli() {
     case "$before" in
         --color) COMPREPLY=($(compgen -W "auto always never" -- "$word")); return ;;
         --state) COMPREPLY=($(compgen -W "all empty implicit explicit closed full readonly offline" -- "$word")); return ;;
-        --commands | --data | --image | --into | --output | --program | --salvage) COMPREPLY=($(compgen -f -- "$word")); return ;;
-        --active | --argument | --block | --blocks | --capacity | --cid | --dwords | --emit | --from | --fuel | --function | --guard-at | --lba | --open | --profile | --queue | --size | --slot | --to | --zones) return ;;
+        --commands | --data | --image | --into | --layout | --output | --program | --salvage) COMPREPLY=($(compgen -f -- "$word")); return ;;
+        --active | --argument | --block | --blocks | --capacity | --cid | --dwords | --emit | --from | --fuel | --function | --greatest | --guard-at | --lba | --least | --open | --profile | --queue | --select | --size | --slot | --sum | --to | --where | --zone | --zones) return ;;
     esac
     [ "$COMP_CWORD" -gt 1 ] && words+=" ${COMP_WORDS[1]}"
     case "${COMP_WORDS[1]}" in
         "entry") [ "$COMP_CWORD" -gt 2 ] && words+=" ${COMP_WORDS[2]}" ;;
     esac
     case "$words" in
-        "zscli") commands="format zones report upgrade exec serve fold asm disasm link trace verify unpack entry entries explain demo" options="--help --version" ;;
+        "zscli") commands="format zones report upgrade exec query serve fold asm disasm link trace verify unpack entry entries explain demo" options="--help --version" ;;
         "zscli format") commands="" options="--block --zones --size --capacity --open --active --force --help" ;;
         "zscli zones") commands="" options="--help" ;;
         "zscli report") commands="" options="--json --map --color --help" ;;
         "zscli upgrade") commands="" options="--help" ;;
         "zscli exec") commands="" options="--profile --fail --stop --words --help" ;;
+        "zscli query") commands="" options="--zone --blocks --layout --where --argument --select --count --sum --least --greatest --csv --json --raw --into --explain --program --help" ;;
         "zscli serve") commands="" options="--frames --drain --durable --help" ;;
         "zscli fold") commands="" options="--salvage --help" ;;
         "zscli asm") commands="" options="--help" ;;

@@ -17,6 +17,7 @@ _zscli() {
             'report:Prints an image'\''s geometry, limits and zones, or draws them'
             'upgrade:Saves an image in the last version'
             'exec:Runs the events of a command file on an image'
+            'query:Asks which records of a zone meet a condition'
             'serve:Does what standard input asks of an image, as it comes'
             'fold:Makes of a journal'\''s base and events a new base'
             'asm:Assembles text to a program'
@@ -39,6 +40,7 @@ _zscli() {
         report) _zscli_report ;;
         upgrade) _zscli_upgrade ;;
         exec) _zscli_exec ;;
+        query) _zscli_query ;;
         serve) _zscli_serve ;;
         fold) _zscli_fold ;;
         asm) _zscli_asm ;;
@@ -98,6 +100,28 @@ _zscli_exec() {
         '--fail[End with status 4 where a command was refused, and tell how many were and the line of the first]' \
         '--stop[End at the first refused command with status 4, and tell its line]' \
         '--words[Print in words what each line tells, as `explain --commands` does]' \
+        '(- *)--help[Print help]'
+}
+
+_zscli_query() {
+    _arguments \
+        ':IMAGE:_files' \
+        '--zone[The zone whose records are asked about]:Z: ' \
+        '--blocks[Ask about the zone'\''s first N blocks alone \[default]:N: ' \
+        '--layout[The layout of the records]:FILE:_files' \
+        '--where[What the records have to meet]:CONDITION: ' \
+        '--argument[The argument of the run, a number that the program is told]:A: ' \
+        '--select[The fields that are printed, with commas between them \[default]:FIELDS: ' \
+        '--count[Print how many records match]' \
+        '--sum[Print the sum of an unsigned field]:FIELD: ' \
+        '--least[Print the least value of an unsigned field]:FIELD: ' \
+        '--greatest[Print the greatest value of an unsigned field]:FIELD: ' \
+        '--csv[Print lines with commas, as without this]' \
+        '--json[Print a JSON list of objects]' \
+        '--raw[Print the bytes of the records]' \
+        '--into[Keep the records that match in this zone of the image, as the device appends them]:ZONE: ' \
+        '--explain[Print how the question is understood, and what asking it takes]' \
+        '--program[Write the program that asks the question]:FILE:_files' \
         '(- *)--help[Print help]'
 }
 

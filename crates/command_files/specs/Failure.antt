@@ -1,7 +1,7 @@
 -- How the program ends (profile).
 use Rattle.std.specs.Prelude.{ℕ, Result, Ok, Err}
 use Rattle.command_files.specs.declared.failure.Failure.{Failure}
-use Rattle.command_files.specs.declared.failure.Failure.TheVariants.{CommandLine, NotText, NotInRange, CannotRead, CannotWrite, NotAnImage, CannotPrint, NoMemory, LineRefused, ReplyRefused, WordsRefused, CommandsRefused, GeometryRefused, NotABlock, EmitExceedsBlock, ImageRefused, JournalRefused, DeviceRefused, AssemblyRefused, ProgramRefused, FrameRefused, DataRefused, StreamRefused, StreamCutOff, NotAccepted}
+use Rattle.command_files.specs.declared.failure.Failure.TheVariants.{CommandLine, NotText, NotInRange, CannotRead, CannotWrite, NotAnImage, CannotPrint, NoMemory, LineRefused, ReplyRefused, WordsRefused, CommandsRefused, GeometryRefused, NotABlock, EmitExceedsBlock, ImageRefused, JournalRefused, DeviceRefused, AssemblyRefused, ProgramRefused, FrameRefused, DataRefused, StreamRefused, StreamCutOff, NotAccepted, QuestionRefused}
 
 -- the exit status of a failure: 1 for a file or memory, 2 for the command line, 3 for input that is refused, 4 for commands that the
 -- device refused; of a line of words it is the one that the words have by themselves
@@ -29,6 +29,7 @@ status_of (DataRefused path fault) = 3
 status_of (StreamRefused place field) = 3
 status_of (StreamCutOff place) = 3
 status_of NotAccepted = 3
+status_of (QuestionRefused told) = 3
 status_of (CommandsRefused path line commands) = 4
 status_of (WordsRefused path line status told) = status
 

@@ -25,7 +25,7 @@ use Rattle.command_files.specs.declared.data_fault.DataFault.{DataFault}
 use Rattle.command_files.specs.declared.failure.Failure.{Failure}
 use Rattle.command_files.specs.declared.file_cause.FileCause.{FileCause}
 use Rattle.command_files.specs.declared.file_cause.FileCause.TheVariants.{LargerThan, Other}
-use Rattle.command_files.specs.declared.failure.Failure.TheVariants.{CommandLine, NotText, NotInRange, CannotRead, CannotWrite, NotAnImage, CannotPrint, NoMemory, LineRefused, ReplyRefused, WordsRefused, CommandsRefused, GeometryRefused, NotABlock, EmitExceedsBlock, ImageRefused, JournalRefused, DeviceRefused, AssemblyRefused, ProgramRefused, FrameRefused, DataRefused, StreamRefused, StreamCutOff, NotAccepted}
+use Rattle.command_files.specs.declared.failure.Failure.TheVariants.{CommandLine, NotText, NotInRange, CannotRead, CannotWrite, NotAnImage, CannotPrint, NoMemory, LineRefused, ReplyRefused, WordsRefused, CommandsRefused, GeometryRefused, NotABlock, EmitExceedsBlock, ImageRefused, JournalRefused, DeviceRefused, AssemblyRefused, ProgramRefused, FrameRefused, DataRefused, StreamRefused, StreamCutOff, NotAccepted, QuestionRefused}
 
 -- a text: one that is said here, one around words that another crate has, one that another crate has, or none
 pub data Text : Type 0 where
@@ -189,6 +189,10 @@ stream_text place field = at_byte place (expected_words field) (field_number fie
 abbrev pub cut_off_text : ℕ → Text
 cut_off_text place = at_byte place (codes "the end of the input; the rest of a frame") 7
 
+-- why a question isn't asked, and the line for scripts
+abbrev pub question_text : List ℕ → Text
+question_text words = Said (words ++ codes "\nquestion refused\n")
+
 -- what the user is told of each failure
 abbrev pub failure_text : Failure → Text
 failure_text (CommandLine error) = Elsewhere
@@ -216,6 +220,7 @@ failure_text (DataRefused path fault) = data_failure_text (shown path.now) fault
 failure_text (StreamRefused place field) = stream_text place field
 failure_text (StreamCutOff place) = cut_off_text place
 failure_text NotAccepted = Silence
+failure_text (QuestionRefused told) = question_text (string_bytes told)
 
 -- a stream grows by some words, with this in front of them and that behind them
 pub record GrowsAround (front behind : List ℕ) (old new : Option (List ℕ)) : Type 0 where

@@ -126,6 +126,8 @@ pub enum Failure<'a> {
     },
     /// A program that the verifier refuses. What it says stands on standard output alone.
     NotAccepted,
+    /// A question that isn't asked, with why in a sentence.
+    QuestionRefused(String),
 }
 
 impl<'a> Failure<'a> {
@@ -181,7 +183,8 @@ impl<'a> Failure<'a> {
             | Failure::DataRefused { .. }
             | Failure::StreamRefused { .. }
             | Failure::StreamCutOff { .. }
-            | Failure::NotAccepted => 3,
+            | Failure::NotAccepted
+            | Failure::QuestionRefused(_) => 3,
             Failure::CommandsRefused { .. } => 4,
             Failure::WordsRefused { status, .. } => *status,
         }

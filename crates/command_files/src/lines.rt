@@ -2,7 +2,7 @@
 
 ghost use Rattle.std.specs.Prelude.{◌≡◌, ◌++◌, [], codes, OnOk};
 ghost use Rattle.std.specs.Fmt.{decimal};
-ghost use Rattle.command_files.specs.Lines.{IsTold, at_line, commands_text, cut_off_text, failure_text, sentence, stream_text};
+ghost use Rattle.command_files.specs.Lines.{IsTold, at_line, commands_text, cut_off_text, failure_text, question_text, sentence, stream_text};
 ghost use Rattle.command_files.specs.Pieces.{piece_text, pieces_text, text_with};
 ghost use Rattle.command_files.specs.Shown.{shown};
 
@@ -116,6 +116,7 @@ fn pieces_of<'p>(failure: &'p Failure<'p>, words: &'p str) -> Pieces<'p>
         }
         Failure::StreamRefused { place, field } => { of_field(*place, *field) }
         Failure::StreamCutOff { place } => { of_cut_off(*place) }
+        Failure::QuestionRefused(told) => of_question(told.as_str()),
     }
 }
 
@@ -239,6 +240,21 @@ fn of_cut_off<'p>(place: u64) -> Pieces<'p>
         ),
         Number(" ", 7),
         Plain("\n"),
+        Nothing,
+        Nothing,
+        Nothing,
+    ]
+}
+
+/// Why a question isn't asked, and the line for scripts.
+fn of_question(words: &str) -> Pieces<'_>
+    ensures { pieces_text result ≡ text_with [] (question_text words.now) }
+{
+    [
+        Plain(words),
+        Plain("\nquestion refused\n"),
+        Nothing,
+        Nothing,
         Nothing,
         Nothing,
         Nothing,

@@ -20,7 +20,7 @@ use Rattle.command_files.specs.declared.journal_fault.JournalFault.{JournalFault
 use Rattle.command_files.specs.declared.journal_fault.JournalFault.TheVariants.{MadeBy, NoBase, OpenGate}
 use Rattle.command_files.specs.declared.journal_fault.JournalFault.TheVariants as journal
 use Rattle.command_images.proofs.Damage.{whole_to_damage}
-use Rattle.command_images.specs.Devices.{AreFaulty, CountsBatches, IsCut, IsFrontFault, IsNoImage, StandForNone, TellDevice, TellNamespace, TellTable}
+use Rattle.command_images.specs.Devices.{AreFaulty, CountsBatches, IsCut, IsFrontFault, IsNoImage, StandForNone, TellDevice, TellItsNamespace, TellNamespace, TellTable}
 use Rattle.command_images.specs.UserTold.{LoadingDeviceFails}
 use Rattle.command_images.specs.steps.Told.{RefusesJournal, TellsCut, TellsJournal, told_of_image}
 
@@ -42,6 +42,20 @@ pub tells_namespace : (contents : Option (List ℕ)) (read : List ℕ) (image : 
     → namespace_in read ≡ Ok image → s ≡ new_state image → TellNamespace contents s.namespace
 tells_namespace contents read image s told loaded new =
     subst (TellDevice contents) (new ∙ ap new_state (sym (ap (λ (t : State). t.namespace) new))) (tells_image contents read image s told loaded new)
+
+-- its namespace is told
+pub tells_image_namespace : (contents : Option (List ℕ)) (read : List ℕ) (image : ZonedNamespace) (s : State) → AreAsTold contents read
+    → namespace_in read ≡ Ok image → s ≡ new_state image → TellItsNamespace contents s.namespace
+tells_image_namespace None read image s told loaded new = tt
+tells_image_namespace (Some bytes) read image s told loaded new =
+    record { device = s; are = tells_image (Some bytes) read image s told loaded new; same = refl }
+
+-- and so is that of a device from which another was made
+pub tells_device_namespace : (contents : Option (List ℕ)) (device new : State) → TellDevice contents device
+    → new ≡ new_state device.namespace → TellItsNamespace contents new.namespace
+tells_device_namespace None device new told made = tt
+tells_device_namespace (Some bytes) device new told made =
+    record { device = device; are = told; same = ap (λ (s : State). s.namespace) made }
 
 -- a journal was done again
 pub tells_journal : (contents : Option (List ℕ)) (read : List ℕ) (s : State) → AreAsTold contents read

@@ -44,6 +44,16 @@ TellDevice bytes s = IfSome bytes (λ bytes. AreOf bytes s)
 abbrev pub TellNamespace : Option (List ℕ) → ZonedNamespace → Type 0
 TellNamespace bytes namespace = TellDevice bytes (new_state namespace)
 
+-- they stand for one that has this namespace, whatever else it has
+pub record HaveNamespace (bytes : List ℕ) (namespace : ZonedNamespace) : Type 0 where
+  pub device : State
+  pub are : AreOf bytes device
+  pub same : namespace ≡ device.namespace
+
+-- the bytes of a file, where they are told, stand for one that has this namespace, whatever else it has
+abbrev pub TellItsNamespace : Option (List ℕ) → ZonedNamespace → Type 0
+TellItsNamespace bytes namespace = IfSome bytes (λ bytes. HaveNamespace bytes namespace)
+
 -- they stand for one whose namespace has this shape and these zones
 pub record HaveTable (bytes : List ℕ) (s : Shape) (zones : List CountedZone) : Type 0 where
   pub device : State

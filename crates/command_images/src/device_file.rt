@@ -6,7 +6,7 @@ ghost use Rattle.device_meaning.specs.State.{new_state};
 ghost use Rattle.durable_device.specs.Kept.{StandsForIt};
 ghost use Rattle.command_files.specs.Made.{AreAsTold};
 ghost use Rattle.command_files.specs.UserTold.{IsUnread};
-ghost use Rattle.command_images.specs.Devices.{CountsBatches, IsCut, IsFrontFault, IsNoImage, TellDevice, TellNamespace, TellTable};
+ghost use Rattle.command_images.specs.Devices.{CountsBatches, IsCut, IsFrontFault, IsNoImage, TellDevice, TellItsNamespace, TellNamespace, TellTable};
 ghost use Rattle.command_images.specs.UserTold.{LoadingDeviceFails, ReplacingFails};
 ghost use Rattle.command_images.specs.steps.Told.{RefusesJournal, RefusesMore, TellsCut, TellsJournal};
 
@@ -87,6 +87,43 @@ fn table_of(alloc: Global, device: &Device) -> Result<DeviceTable, AllocError>
         },
         runs: kept.runs,
     })
+}
+
+/// A device in memory with the namespace of the one that a file stands for, without a program or a run: that of an image, or that of a
+/// journal, to which the events in it happened again. The file isn't held.
+///
+/// # Errors
+///
+/// Those of [`load_table`].
+#[tactic(auto, using(crate::proofs::Devices::tells_image_namespace, crate::proofs::Devices::tells_device_namespace, crate::proofs::Devices::fails_as_image))]
+pub fn load_copy<'a, F: Files>(
+    alloc: Global,
+    path: &'a str,
+    files: &mut F,
+) -> Result<Box<Device>, Failure<'a>>
+    ensures made { F.made files.new ≡ F.made files.old }
+    ensures contents { F.contents files.new ≡ F.contents files.old }
+    ensures modes { F.modes files.new ≡ F.modes files.old }
+    ensures tried { F.tried files.new ≡ F.tried files.old }
+    ensures held { F.held files.new ≡ F.held files.old }
+    ensures new { IfOk result (λ device. device.value ≡ new_state device.value.namespace) }
+    ensures namespace { F.Reader.tells
+        → IfOk result (λ device. TellItsNamespace (F.contents files.old path.now) device.value.namespace) }
+    ensures failed { IfErr result (LoadingDeviceFails F.Reader.tells (F.contents files.old path.now) path.now) }
+    ensures not_printing { result ≢ Err Failure.CannotPrint }
+{
+    match files.open(path) {
+        Ok(mut file) => match Image::load(alloc, &mut file) {
+            Ok(image) => Ok(boxed(alloc, image)?),
+            Err(LoadFault::Magic) => {
+                let device = load_journal(alloc, path, files)?;
+                Ok(on_heap(alloc, Box::into_inner(device).renewed())?)
+            }
+            Err(LoadFault::Truncated) => Err(cut(path, files)),
+            Err(fault) => Err(image_file::refused(path, fault)),
+        },
+        Err(fault) => Err(cannot_read(path, fault)),
+    }
 }
 
 /// The device of a file that is to be replaced by an image, as of [`load_table`]: its name is held from before the file is read on. The

@@ -18,6 +18,7 @@ use command_files::{Failure, Files, Shown, printed};
 use command_images::{format, report, upgrade, zones};
 use command_link::link;
 use command_programs::{asm, disasm, trace, unpack, verify};
+use command_query::query;
 use command_serve::{DurableFiles, fold, serve};
 use command_words::{Words, command_over, laid_out};
 use std::alloc::{AllocError, Global};
@@ -30,7 +31,7 @@ const VERSION: &str = "0.1.0";
 /// name, but for a program and what is noted beside it. Unless the input is taken, as by `serve` alone, at most one is made, or these two;
 /// and where this fails for another reason than standard output, where `exec` saves an image, none is made, and each file has the bytes
 /// that it had. What it gives is why a command line ends with another status all the same whose work is done: commands were refused,
-/// where `exec` is to fail for these. What `entry` notes of a program goes to standard error; where this fails, nothing does.
+/// where `exec` is to fail for these. What `entry` notes of a program, and `query` of its runs, goes to standard error; where this fails, nothing does.
 ///
 /// # Errors
 ///
@@ -233,6 +234,7 @@ fn perform_other<'a, F: DurableFiles, I, O: Write, E: Write>(
         report::NAME => report::report(alloc, matches, streams.colored, files, &mut streams.out),
         upgrade::NAME => upgrade::upgrade(alloc, matches, files),
         fold::NAME => fold::fold(alloc, matches, files, &mut streams.out),
+        query::NAME => query::query(alloc, matches, files, &mut streams.out, &mut streams.err),
         _ => perform_without_image(alloc, line, name, matches, files, streams),
     }
 }
@@ -299,6 +301,7 @@ fn command_line<'a>(alloc: Global) -> Result<Command<'a>, AllocError> {
         (&report::WORDS, alone),
         (&upgrade::WORDS, alone),
         (&exec::WORDS, alone),
+        (&query::WORDS, alone),
         (&serve::WORDS, alone),
         (&fold::WORDS, alone),
         (&asm::WORDS, alone),

@@ -1,0 +1,95 @@
+//! How a question is understood, and what asking it takes.
+
+use crate::answering::Plan;
+use crate::columns::{Column, push_type};
+use crate::layout::RecordLayout;
+use crate::wanted::Wanted;
+use command_files::Counted;
+use emit_append::blocks_needed;
+use program_interface::MOST_SLOTS;
+use question_words::text_of;
+use std::alloc::{AllocError, Global};
+
+/// The question in full, the programs that ask it, and the room and the runs that it takes.
+pub(crate) fn explained(
+    alloc: Global,
+    layout: &RecordLayout,
+    plan: &Plan,
+) -> Result<String, AllocError> {
+    let mut text = String::new(alloc);
+    let condition = text_of(alloc, &plan.question.wanted)?;
+    writeln!(text, "where: {}", condition.as_str())?;
+    let shape = layout.shape;
+    let first = shape.first;
+    let size = shape.size;
+    let records = plan.records;
+    writeln!(
+        text,
+        "records: {records} of {size} bytes in each block, from byte {first} on"
+    )?;
+    push_wanted(&plan.wanted, &mut text)?;
+    for part in &plan.parts {
+        let slots = part.slots;
+        let limit = part.sizes.limit();
+        let records = Counted(u64::from(part.records), "record");
+        writeln!(
+            text,
+            "program: {slots} of {MOST_SLOTS} slots, for {records} of each block; it emits at most {limit} bytes for a block (--emit {limit})"
+        )?;
+    }
+    push_work(plan, &mut text)?;
+    Ok(text)
+}
+
+/// Adds what is printed.
+fn push_wanted(wanted: &Wanted, text: &mut String) -> Result<(), AllocError> {
+    match wanted {
+        Wanted::Rows(columns) => {
+            text.push_str("select:")?;
+            for (number, column) in columns.iter().enumerate() {
+                text.push_str(if number > 0 { ", " } else { " " })?;
+                push_column(column, text)?;
+            }
+        }
+        Wanted::Tallies(tallies) => {
+            text.push_str("tally:")?;
+            for (number, named) in tallies.iter().enumerate() {
+                text.push_str(if number > 0 { ", " } else { " " })?;
+                text.push_str(named.name.as_str())?;
+            }
+        }
+    }
+    text.push_str("\n")
+}
+
+/// Adds a column, as a layout has it.
+fn push_column(column: &Column, text: &mut String) -> Result<(), AllocError> {
+    let name = column.name.as_str();
+    let offset = column.kind.offset();
+    write!(text, "{name} ")?;
+    push_type(column.kind, text)?;
+    write!(text, " @{offset}")
+}
+
+/// Adds what asking takes.
+fn push_work(plan: &Plan, text: &mut String) -> Result<(), AllocError> {
+    let blocks = Counted(u64::from(plan.source.blocks), "block");
+    let zone = plan.source.zone;
+    writeln!(text, "source: {blocks} of zone {zone}")?;
+    let mut room: u64 = 0;
+    for part in &plan.parts {
+        room = room.saturating_add(u64::from(blocks_needed(plan.source.blocks, part.sizes)));
+    }
+    let room = Counted(room, "block");
+    let destination = plan.destination;
+    writeln!(
+        text,
+        "room: {room} of zone {destination}, if all records match"
+    )?;
+    let runs = Counted(plan.runs(), "run");
+    let each = Counted(
+        u64::from(plan.blocks_of_run.min(plan.source.blocks)),
+        "block",
+    );
+    writeln!(text, "runs: {runs}, each over at most {each}")
+}

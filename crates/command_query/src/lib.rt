@@ -1,0 +1,23 @@
+//! The command `query`: a question about the records of a zone, which programs on a device in memory answer.
+#![tactic(auto)]
+
+mod adding;
+mod answering;
+mod cells;
+mod columns;
+mod commands;
+mod destination;
+mod explained;
+mod layout;
+mod layout_fault;
+mod parts;
+pub mod query;
+mod records;
+mod refused;
+mod rows;
+mod source;
+mod tallied;
+#[cfg(test)]
+mod tests;
+mod understood;
+mod wanted;
