@@ -27,13 +27,9 @@ impl Number {
 }
 
 impl Machine for Number {
-    type Reply = u8;
-
     ghost loads = { IsBaseOf };
 
     ghost next = { λ number _ event. number_after number event };
-
-    ghost replies = { λ number _ event reply. reply ≡ (number_after number event).value };
 
     ghost one_base = { one_number };
 
@@ -44,11 +40,10 @@ impl Machine for Number {
         }
     }
 
-    fn apply(&mut self, _alloc: Global, event: &[u8]) -> Result<Applied<u8>, AllocError> {
+    fn apply(&mut self, _alloc: Global, event: &[u8]) -> Result<Applied, AllocError> {
         let before = *self;
         *self = before.after(event);
         Ok(Applied {
-            reply: self.value,
             changes: event.len() == 1,
             starved: false,
         })
