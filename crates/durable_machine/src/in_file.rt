@@ -55,9 +55,5 @@ impl<M: Machine, F: StoredFile + Drop> Store<M> for InFile<F> {
         self.waiting.is_empty()
     }
 
-    fn is_on_disk(&self) -> bool {
-        true
-    }
-
     fn rests() {}
 }

@@ -40,9 +40,5 @@ impl<M: Machine> Store<M> for InMemory {
         true
     }
 
-    fn is_on_disk(&self) -> bool {
-        false
-    }
-
     fn rests() {}
 }

@@ -49,7 +49,7 @@ pub use in_file::InFile;
 pub use in_memory::InMemory;
 pub use journal::{Journal, add_event, repair};
 pub use journal_reading::{first_batch, first_event, is_end};
-pub use machine::{Applied, Machine, Saves};
+pub use machine::{Applied, Machine};
 pub use opening::Durable;
 pub use reading::machine_in;
 pub use rescue::{Salvaged, salvage};

@@ -2,7 +2,7 @@
 
 ghost use Rattle.std.specs.Prelude.{◌≡◌, ℕ, Bool, List, ◌++◌, IfOk, OnErr, MatchOption};
 ghost use Rattle.durable_machine.specs.Applied.{HasApplied};
-ghost use Rattle.durable_machine.specs.Bases.{BeginsNoBase, BeginsBase, HasNoBase, NeedsBytes};
+ghost use Rattle.durable_machine.specs.Bases.{BeginsNoBase, BeginsBase, NeedsBytes};
 
 use std::alloc::{AllocError, Global};
 
@@ -55,15 +55,4 @@ pub trait Machine {
 
     /// A file begins with one base, which stands for one machine.
     ghost one_base: { (a b x y : List ℕ) (s t : Self) → loads a s → loads b t → a ++ x ≡ b ++ y → (a ≡ b) × (s ≡ t) };
-}
-
-/// A machine that can be told as a base, in some of its states or in all.
-pub trait Saves: Machine {
-    /// A base that stands for the machine as it is; `None` where no base does.
-    ///
-    /// # Errors
-    ///
-    /// No memory.
-    fn save(&self, alloc: Global) -> Result<Option<Vec<u8>>, AllocError>
-        ensures { IfOk result (λ made. MatchOption made (HasNoBase Self.loads self.now) (λ base. Self.loads base.items self.now)) };
 }

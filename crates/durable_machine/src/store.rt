@@ -3,7 +3,7 @@
 ghost use Rattle.std.specs.Prelude.{◌≡◌, ◌↔◌, ℕ, List, ◌++◌, [], take, false, IfOk, IsTrue, OnErr, OnOk};
 ghost use Rattle.stored_file.specs.File.{FileState, LeavesOnly, MayLeave};
 ghost use Rattle.stored_file.specs.Cause.{HasCause};
-ghost use Rattle.durable_machine.specs.Files.{IsDurable, IsState};
+ghost use Rattle.durable_machine.specs.Files.{IsState};
 ghost use Rattle.durable_machine.specs.Waiting.{IsEither};
 
 use crate::Machine;
@@ -73,11 +73,6 @@ pub trait Store<M: Machine> {
     /// Is all committed that was done?
     fn is_committed(&self) -> bool
         ensures none { IsTrue result ↔ waits self.now ≡ [] };
-
-    /// Is what was committed on a disk, so that a crash leaves it?
-    fn is_on_disk(&self) -> bool
-        ensures { IsTrue result → (machine : M) → settled machine (disk self.now)
-            → (gate : ℕ) × IsDurable M.loads M.next machine gate (told (disk self.now)) };
 
     /// What is committed is kept with no note, and what is kept with no note is committed. A crash leaves what was committed. A proof
     /// about every store calls this, which has no code.

@@ -3,7 +3,7 @@
 ghost use Rattle.std.specs.Prelude.{◌≡◌, ◌≤◌, ℕ, List, [], ◌∷◌, length, take, IfOk};
 ghost use Rattle.durable_machine_tests.specs.Number.{IsBaseOf, number_after, one_number};
 
-use durable_machine::{Applied, Machine, Saves};
+use durable_machine::{Applied, Machine};
 use std::alloc::{AllocError, Global};
 
 /// The number to which events of one byte lead: each takes it times 31, plus the byte.
@@ -47,11 +47,5 @@ impl Machine for Number {
             changes: event.len() == 1,
             starved: false,
         })
-    }
-}
-
-impl Saves for Number {
-    fn save(&self, alloc: Global) -> Result<Option<Vec<u8>>, AllocError> {
-        Ok(Some(vec![in alloc; self.value]?))
     }
 }

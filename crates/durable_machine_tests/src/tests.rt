@@ -6,7 +6,7 @@ ghost use Rattle.durable_machine_tests.specs.Number.{IsBaseOf};
 
 use crate::Number;
 use crate::keeping::{apply, commit, serve};
-use durable_machine::{Durable, Fault, InMemory, Saves, Store, put_base};
+use durable_machine::{Durable, Fault, InMemory, Store, put_base};
 use std::alloc::{AllocError, Global};
 use std::test::Fail;
 use stored_file::{FileError, SECTOR, StoredFile, TearingFile};
@@ -44,13 +44,10 @@ fn opened(alloc: Global, bytes: &[u8]) -> Result<Durable<Number, TearingFile>, F
 }
 
 /// The base of a number.
-fn base_of(alloc: Global, number: Number) -> Result<Vec<u8>, FileError>
+fn base_of(alloc: Global, number: Number) -> Result<Vec<u8>, AllocError>
     ensures { IfOk result (λ base. IsBaseOf base.items number) }
 {
-    match number.save(alloc)? {
-        Some(base) => Ok(base),
-        None => Err(FileError::Failed),
-    }
+    vec![in alloc; number.value]
 }
 
 /// A new store of the number 0, in the place of a file of no bytes.
@@ -158,12 +155,11 @@ fn what_was_done_waits_for_the_commit(rt: HostRuntime) -> Result<(), Fail> {
 }
 
 #[test]
-fn what_is_in_memory_is_on_no_disk(rt: HostRuntime) -> Result<(), Fail> {
+fn what_is_in_memory_waits_for_nothing(rt: HostRuntime) -> Result<(), Fail> {
     let mut events = InMemory;
     Store::<Number>::note(&mut events, &[5], &[], &[])?;
     assert!(rt; Store::<Number>::is_committed(&events));
     Store::<Number>::commit(&mut events, rt.alloc())?;
-    assert!(rt; !Store::<Number>::is_on_disk(&events));
     Ok(())
 }
 
