@@ -53,4 +53,5 @@ pub use machine::{Applied, Machine};
 pub use opening::Durable;
 pub use reading::machine_in;
 pub use rescue::{Salvaged, salvage};
+pub use sectors::in_sectors;
 pub use store::Store;
