@@ -12,7 +12,7 @@ mod notes;
 mod reading;
 mod sections;
 
-pub use changes::{asks_change, is_refusal};
+pub use changes::{asks_change, is_idle, is_refusal};
 pub use durable_device::{DurableDevice, Folding, MOST_JOURNAL};
 pub use folding::Folds;
 pub use frame_device::{FrameDevice, base_of};
