@@ -47,7 +47,7 @@ fn opened(alloc: Global, bytes: &[u8]) -> Result<Durable<Number, TearingFile>, F
 fn base_of(alloc: Global, number: Number) -> Result<Vec<u8>, AllocError>
     ensures { IfOk result (λ base. IsBaseOf base.items number) }
 {
-    vec![in alloc; number.value]
+    Ok(vec![in alloc; number.value]?)
 }
 
 /// A new store of the number 0, in the place of a file of no bytes.
