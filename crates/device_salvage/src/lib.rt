@@ -1,13 +1,12 @@
 //! What is whole of a device's journal, damaged or not, and a new file of it.
 #![tactic(auto)]
 
-ghost use Rattle.std.specs.Prelude.{◌≡◌, ◌<◌, ◌^◌, IfErr, IfOk};
-ghost use Rattle.durable_machine.specs.Files.{whole_sectors};
+ghost use Rattle.std.specs.Prelude.{IfErr, IfOk};
 ghost use Rattle.durable_device.specs.Kept.{RefusesBytes};
 ghost use Rattle.device_salvage.specs.Salvage.{AreBaseAlone, IsSalvageOf};
 
 use durable_device::{FrameDevice, base_of};
-use durable_machine::Fault;
+use durable_machine::{Fault, in_sectors};
 use runner::Device;
 use std::alloc::{AllocError, Global};
 use stored_file::SECTOR;
@@ -52,12 +51,4 @@ fn new_journal(alloc: Global, device: &Device) -> Result<Vec<u8>, AllocError>
     let front = in_sectors(file.len());
     file.resize(front + SECTOR, 0)?;
     Ok(file)
-}
-
-/// The bytes of the sectors that so many bytes take.
-fn in_sectors(length: usize) -> usize
-    requires { length < 2 ^ 63 }
-    ensures { result ≡ whole_sectors length }
-{
-    length.div_ceil(SECTOR) * SECTOR
 }

@@ -15,8 +15,9 @@ use Rattle.device_meaning.specs.State.{Place, State, place_at}
 use Rattle.device_meaning.specs.Happenings.{place_left, take_turn, turn_reply, turn_state, turned, turned_at}
 use Rattle.device_meaning.specs.Outcome.{Ending, Turn}
 use Rattle.device_meaning.proofs.Proved.{events_in_parts}
+use Rattle.durable_device.specs.Changing.{is_idle}
 use Rattle.event_frames.specs.Frames.{reply_frame}
-use Rattle.device_serve.specs.FrameStream.{Answers, Began, GivesTurns, HasNone, TookTurns, WentRound, is_idle, of_runs, turns_round}
+use Rattle.device_serve.specs.FrameStream.{Answers, Began, GivesTurns, HasNone, TookTurns, WentRound, of_runs, turns_round}
 use Rattle.device_serve.specs.steps.FrameParts.{AreFree, GaveTurn, HasGrown}
 
 -- ---- events in parts

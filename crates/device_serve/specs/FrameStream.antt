@@ -8,12 +8,11 @@ use Rattle.image_store.specs.Namespace.{ZonedNamespace}
 use Rattle.device_events.specs.Replies.{ReplyWithData}
 use Rattle.device_events.specs.declared.event.Event.{Event}
 use Rattle.device_events.specs.declared.event.Event.TheVariants as event
-use Rattle.device_events.specs.declared.reply.Reply.{Reply}
-use Rattle.device_events.specs.declared.reply.Reply.TheVariants as reply
 use Rattle.device_meaning.specs.Events.{HasHappened, HasServed}
 use Rattle.device_meaning.specs.Happenings.{turned}
 use Rattle.device_meaning.specs.Judging.{interval_judge}
 use Rattle.device_meaning.specs.State.{State}
+use Rattle.durable_device.specs.Changing.{is_idle}
 use Rattle.event_frames.specs.Frames.{drained_frame, reply_frame, request_frame, saved_frame}
 use Rattle.event_frames.specs.Requests.{Fits, told_of}
 use Rattle.event_frames.specs.Streams.{IsFault, IsPartial, SessionState, behind}
@@ -35,14 +34,6 @@ Answers events old new before after =
     HasServed interval_judge events old new (λ replies. after ≡ before ++ flat_map reply_frame replies)
 
 -- ---- turns, round the runs
-
--- is it the reply to the turn of a number that no run has?
-abbrev pub is_idle : Reply → Bool
-is_idle (reply.Complete queue entry length) = false
-is_idle (reply.Pending run) = false
-is_idle reply.Idle = true
-is_idle reply.FaultTaken = false
-is_idle reply.FaultRefused = false
 
 -- the replies to turns that runs were given
 abbrev pub of_runs : List ReplyWithData → List ReplyWithData

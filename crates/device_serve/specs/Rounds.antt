@@ -4,7 +4,7 @@ use Rattle.std.specs.Prelude.{ℕ, ◌≡◌, ◌≤◌, ◌++◌, List, [], ◌
 use Rattle.std.specs.Io.KnownBytes.{Appends, Consumes}
 use Rattle.stored_file.specs.File.{FileState, LeavesOnly}
 use Rattle.device_meaning.specs.State.{State}
-use Rattle.durable_device.specs.Kept.{IsEither, StandsFor}
+use Rattle.durable_device.specs.Kept.{IsEither, StandsFor, StandsForIt}
 use Rattle.device_serve.specs.declared.fault.ServeFault.{ServeFault}
 use Rattle.device_serve.specs.declared.fault.ServeFault.TheVariants as fault
 
@@ -101,6 +101,11 @@ module _ {C D : Type 0} (does : Doing C) (told : D → FileState) (settled : Sta
   abbrev pub CrashLeavesRounds : Type 0
   CrashLeavesRounds = (pieces : List (List ℕ)) (old new : Site C D) → settled old.state old.disk → AreRounds pieces old new
       → LeavesOnly (told old.disk) (told new.disk) (IsAfterRounds pieces old)
+
+  -- of a file that a crash left while rounds were served, the device after these first ones is opened
+  abbrev pub RoundsComeBack : Type 0
+  RoundsComeBack = (pieces : List (List ℕ)) (old : Site C D) (left : List ℕ) (opened : State)
+      (after : IsAfterRounds pieces old left) → StandsForIt left opened → opened ≡ after.mid.state
 
   -- bytes are served in rounds
   pub record InRounds (bytes : List ℕ) (old new : Site C D) : Type 0 where

@@ -1,6 +1,6 @@
-//! What a crash leaves of a device that is served. The function does nothing: what it ensures is the law.
+//! What a crash leaves of a device that is served. The functions do nothing: what they ensure is the law.
 
-ghost use Rattle.device_serve.specs.Rounds.{CrashLeavesRounds, afresh};
+ghost use Rattle.device_serve.specs.Rounds.{CrashLeavesRounds, RoundsComeBack, afresh};
 
 use crate::codec::Codec;
 use durable_device::FrameDevice;
@@ -12,3 +12,8 @@ pub fn crash_leaves_rounds<S: Store<FrameDevice> + Drop, C: Codec<S>>()
 {
     S::rests();
 }
+
+/// Of a file that a crash left while rounds were served, the device after the first of them is opened.
+pub fn rounds_come_back<S: Store<FrameDevice> + Drop, C: Codec<S>>()
+    ensures { RoundsComeBack (afresh C.does) S.told S.settled }
+{}

@@ -20,7 +20,7 @@ use Rattle.kept_device.specs.Sections.{slot_in}
 use Rattle.runner.specs.Restored.{IsOfBytes}
 use Rattle.durable_device.specs.FrameEvents.{event_by, fault_in, frame_event, header_in, submission_in, turn_in}
 use Rattle.durable_device.specs.declared.frame_event.Header.{Header}
-use Rattle.durable_device.proofs.Told.{file_occurrences, occurrence_by}
+use Rattle.durable_device.proofs.Told.{file_occurrences, given_occurrence}
 
 -- ---- events
 
@@ -128,7 +128,7 @@ frame_carries : (frame : List ℕ) → AreBytes frame → CarriesIfTold (frame_e
 unfolding frame_event
 frame_carries frame are = either (nat_le 16 (length frame)) (event_by (header_in frame) (drop 16 frame)) None (by_carries (header_in frame) (drop 16 frame) (bytes_from 16 frame are)) tt
 
-next_carries : (e : Option ToldEvent) (os : List Occurrence) → CarriesIfTold e → AreEvents os → AreEvents (cons_option (occurrence_by false e) os)
+next_carries : (e : Option ToldEvent) (os : List Occurrence) → CarriesIfTold e → AreEvents os → AreEvents (cons_option (given_occurrence e) os)
 next_carries None os one all = all
 next_carries (Some e) os one all = (one, all)
 

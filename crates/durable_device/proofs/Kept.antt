@@ -1,5 +1,5 @@
 -- What files stand for, in the device's words.
-use Rattle.std.proofs.Common.{◌≡◌, ◌<◌, ℕ, List, ◌++◌, length, map, take, drop, Option, Some, sym, ap, subst, ◌∙◌, inl, inr, take-append-drop}
+use Rattle.std.proofs.Common.{◌≡◌, ◌<◌, ℕ, List, ◌++◌, length, map, take, drop, Option, Some, sym, ap, subst, ◌∙◌, take-append-drop}
 use Rattle.std.specs.Prelude.{Vec}
 use Rattle.std.specs.declared.alloc.Global.{Global}
 use Rattle.std.proofs.lemmas.List.{drop_at, length-map, map-append, take_at}
@@ -10,7 +10,7 @@ use Rattle.image_base.specs.Base.{IsBaseOf, Told}
 use Rattle.image_base.proofs.Proved.{one_base}
 use Rattle.nvme_entry.specs.declared.program_slot.TheConstants.{PROGRAM_SLOTS}
 use Rattle.durable_machine.specs.Bases.{BeginsBase, BeginsNoBase, NeedsBytes}
-use Rattle.durable_machine.specs.Batches.{IsAfterSome as IsAfterSomeBytes, IsBeforeOrAfter as IsBeforeOrAfterBytes, bytes_of}
+use Rattle.durable_machine.specs.Batches.{bytes_of}
 use Rattle.durable_machine.specs.Files.{joined}
 use Rattle.device_meaning.specs.Beginning.{MayBegin}
 use Rattle.device_meaning.specs.Events.{state_after}
@@ -24,13 +24,12 @@ use Rattle.kept_device.specs.Sections.{place_in, slot_in}
 use Rattle.runner.specs.Restored.{IsRestored, TellNone}
 use Rattle.runner.specs.declared.restoring.KeptDevice.{KeptDevice}
 use Rattle.runner.proofs.Proved.{restored_may_begin}
-use Rattle.durable_device.specs.Laws.{FilesAreReached, FirstBatchesComeBack}
-use Rattle.durable_device.specs.Machine.{IsDeviceBase, SpellPrograms, SpellRuns, next_state, one_spelled}
-use Rattle.durable_device.specs.Serving.{IsAfterSome, IsBeforeOrAfter, Leads}
+use Rattle.durable_device.specs.Laws.{FilesAreReached}
+use Rattle.durable_device.specs.Machine.{IsDeviceBase, SpellPrograms, SpellRuns, one_spelled}
 use Rattle.durable_device.specs.Spelled.{SpellKept, SpellNothingKept}
 use Rattle.durable_device.proofs.Bytes.{base_parts, batches_are_bytes, occurrences_carry, program_is_bytes, section_there}
 use Rattle.durable_device.proofs.SectionLists.{as_many}
-use Rattle.durable_device.proofs.Told.{all_given, file_occurrences, file_state, file_told, leads}
+use Rattle.durable_device.proofs.Told.{all_given, file_occurrences, file_state, file_told}
 
 -- ---- bases
 
@@ -88,19 +87,6 @@ module _ (file : List ℕ) (told : Told) (n : ℕ) (begins : BeginsBase IsBaseOf
         (subst (λ (t : Told). IsRestored t.namespace (map slot_told kept.programs.items) (map place_told kept.runs.items) s) same
         (subst (λ (l : List (Option Active)). IsRestored loads.told.namespace (map slot_told kept.programs.items) l s) runs
         (subst (λ (l : List (Option SavedProgram)). IsRestored loads.told.namespace l loads.runs s) programs loads.restored)))
-
--- ---- what a crash leaves
-
-pub before_or_after : (frames : List (List ℕ)) (old : State) (c : List ℕ) → IsBeforeOrAfterBytes IsDeviceBase next_state frames old c → IsBeforeOrAfter frames old c
-before_or_after frames old c (inl before) = inl before
-before_or_after frames old c (inr after) = inr (after.0, leads frames old after.0 after.1, after.2)
-
-pub after_some : (batches : List (List (List ℕ))) (old : State) (c : List ℕ) → IsAfterSomeBytes IsDeviceBase next_state batches old c → IsAfterSome batches old c
-after_some batches old c (n, within, s, led, stands) = (n, within, s, leads (joined (take n batches)) old s led, stands)
-
-pub first_batches_come_back : FirstBatchesComeBack
-first_batches_come_back batches old opened left (n, within, s, led, stands) is =
-    (n, within, subst (Leads (joined (take n batches)) old) (sym (is.no_other s stands)) led)
 
 -- ---- files
 

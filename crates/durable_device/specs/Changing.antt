@@ -41,6 +41,7 @@ is_want_of_memory Idle = false
 is_want_of_memory FaultTaken = false
 is_want_of_memory FaultRefused = false
 
+-- is it the reply to the turn of a number that no run has?
 abbrev pub is_idle : Reply → Bool
 is_idle (Complete queue entry length) = false
 is_idle (Pending run) = false

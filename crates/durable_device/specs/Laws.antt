@@ -1,6 +1,6 @@
 -- What files stand for, and what comes back of them, in the device's words.
-use Rattle.std.specs.Prelude.{◌≡◌, ◌≤◌, ℕ, false, List, length, take, Some}
-use Rattle.std.specs.List.{AllByRecursion}
+use Rattle.std.specs.Prelude.{◌≡◌, ℕ, false, List, map, Some}
+use Rattle.std.specs.List.{AllByRecursion, filter_map}
 use Rattle.common_definitions.specs.Bytes.{AreBytes}
 use Rattle.stored_file.specs.File.{FileState, MayLeave}
 use Rattle.durable_machine.specs.Journal.{StandsFor as HasJournal}
@@ -14,7 +14,6 @@ use Rattle.device_meaning.specs.State.{State}
 use Rattle.durable_device.specs.FrameEvents.{IsFrameOf, frame_event}
 use Rattle.durable_device.specs.Kept.{StandsFor, StandsForIt}
 use Rattle.durable_device.specs.Machine.{IsDeviceBase, next_state}
-use Rattle.durable_device.specs.Serving.{AreTold, IsAfterSome, Leads}
 
 -- frames tell events: that of an event tells it, and bytes tell an event only where they are its frame
 pub record FramesTellEvents : Type 0 where
@@ -26,6 +25,10 @@ pub record HasFrames (file : List ℕ) (first : State) (batches : List (List (Li
   pub front : List ℕ
   pub begins : IsFront IsDeviceBase next_state front first
   pub journal : HasJournal front batches file
+
+-- these are occurrences of the events that frames tell, in order; at which of them memory is refused is left open
+abbrev pub AreTold : List (List ℕ) → List Occurrence → Type 0
+AreTold frames occurrences = map (λ o. o.event) occurrences ≡ filter_map frame_event frames
 
 -- A device in this state is led to it by the events in a file, with memory given to each, from the state that the file's base stands for.
 -- In that one a device may begin.
@@ -43,13 +46,6 @@ pub record ComesOf (file : List ℕ) (s : State) : Type 0 where
 -- what a file of bytes stands for comes of the events in it
 abbrev pub FilesAreReached : Type 0
 FilesAreReached = (file : List ℕ) (s : State) → AreBytes file → StandsFor file s → ComesOf file s
-
--- of a file that a crash left while batches of frames were served, the device is opened after the events of the first of them: some of
--- the batches, none skipped and none in part
-abbrev pub FirstBatchesComeBack : Type 0
-FirstBatchesComeBack =
-    (batches : List (List (List ℕ))) (old opened : State) (left : List ℕ) → IsAfterSome batches old left → StandsForIt left opened
-    → (n : ℕ) × (n ≤ length batches) × Leads (joined (take n batches)) old opened
 
 -- of each file that a crash leaves now, a device in this state is opened
 abbrev pub ComesBack : FileState → State → Type 0

@@ -3,6 +3,5 @@ pub mod Changing
 pub mod Machine
 pub mod Again
 pub mod Kept
-pub mod Serving
 pub mod Laws
 pub mod Spelled

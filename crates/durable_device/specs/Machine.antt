@@ -1,5 +1,5 @@
 -- The device as a machine whose events are frames, and whose bases tell its namespace, its programs and its runs.
-use Rattle.std.specs.Prelude.{◌≡◌, ℕ, Bool, List, [], ◌∷◌, ◌++◌, map, take, drop, Option, Some, None, option_map}
+use Rattle.std.specs.Prelude.{◌≡◌, ℕ, Bool, List, [], ◌∷◌, ◌++◌, map, take, drop, Option, Some, None}
 use Rattle.std.proofs.Common.{ap, sym, subst, ◌∙◌}
 use Rattle.image_base.specs.Base.{IsBaseOf, Told}
 use Rattle.image_base.proofs.Proved.{one_base}
@@ -15,7 +15,6 @@ use Rattle.kept_device.specs.Sections.{place_in, slot_in}
 use Rattle.runner.specs.Restored.{IsRestored}
 use Rattle.runner.proofs.Proved.{one_is_restored}
 use Rattle.durable_device.specs.FrameEvents.{frame_event}
-use Rattle.durable_device.specs.declared.frame_device.Given.{Given}
 
 -- ---- frames
 
@@ -26,18 +25,6 @@ state_by s starved (Some e) = (happens interval_judge s starved e).state
 
 abbrev pub next_state : State → Bool → List ℕ → State
 next_state s starved frame = state_by s starved (frame_event frame)
-
--- the reply to it; none where it tells no event
-abbrev pub reply_by : State → Bool → Option ToldEvent → Option ReplyWithData
-reply_by s starved None = None
-reply_by s starved (Some e) = Some (happens interval_judge s starved e).reply
-
--- a reply as it is given
-abbrev pub given_reply : Given → ReplyWithData
-given_reply given = record { reply = given.reply; bytes = given.data.items }
-
-abbrev pub HasReplied : State → Bool → List ℕ → Option Given → Type 0
-HasReplied s starved frame given = option_map given_reply given ≡ reply_by s starved (frame_event frame)
 
 -- one event led from one state to the other, with this reply
 pub record HasDone (e : ToldEvent) (old new : State) (reply : ReplyWithData) : Type 0 where

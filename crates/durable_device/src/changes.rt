@@ -4,7 +4,7 @@ ghost use Rattle.std.specs.Prelude.{◌≡◌, ◌<◌, ◌^◌};
 ghost use Rattle.nvme_entry.specs.Entry.{decoded};
 ghost use Rattle.zns_commands.specs.Meaning.{change_of};
 ghost use Rattle.durable_device.specs.FrameEvents.{told_by};
-ghost use Rattle.durable_device.specs.Changing.{HasIdentifier, asks_change, is_change, is_refusal, is_want_of_memory, may_change};
+ghost use Rattle.durable_device.specs.Changing.{HasIdentifier, asks_change, is_change, is_idle, is_refusal, is_want_of_memory, may_change};
 
 use crate::frame_event::FrameEvent;
 use device_events::Reply;
@@ -21,7 +21,7 @@ pub(crate) fn may_change(event: &FrameEvent<'_>, reply: &Reply) -> bool
             let _identifier = Entry::cid(entry);
             asks_change(entry) && !is_refusal(reply)
         }
-        FrameEvent::Turn { .. } => !matches!(reply, Reply::Idle),
+        FrameEvent::Turn { .. } => !is_idle(reply),
         FrameEvent::Fault { .. } => matches!(reply, Reply::FaultTaken),
     }
 }
@@ -62,6 +62,17 @@ pub fn is_refusal(reply: &Reply) -> bool
         Reply::Idle => false,
         Reply::FaultTaken => false,
         Reply::FaultRefused => false,
+    }
+}
+
+/// Whether it is the reply to the turn of a number that no run has.
+pub fn is_idle(reply: &Reply) -> bool
+    ensures { result ≡ is_idle reply.now }
+{
+    match reply {
+        Reply::Idle => true,
+        Reply::Complete { .. } | Reply::Pending { .. } => false,
+        Reply::FaultTaken | Reply::FaultRefused => false,
     }
 }
 

@@ -7,7 +7,7 @@ ghost use Rattle.device_meaning.specs.Judging.{interval_judge};
 ghost use Rattle.device_meaning.specs.Reached.{IsReached};
 ghost use Rattle.device_meaning.specs.State.{new_state};
 ghost use Rattle.durable_device.specs.FrameEvents.{told_by};
-ghost use Rattle.durable_device.specs.Machine.{HasDone, HasReplied, IsDeviceBase, next_state, one_device};
+ghost use Rattle.durable_device.specs.Machine.{HasDone, IsDeviceBase, next_state, one_device};
 
 use crate::changes::{is_want_of_memory, may_change};
 use crate::frame_event::{FrameEvent, event_in};
@@ -21,23 +21,13 @@ use nvme_entry::MOST_TRANSFER;
 use runner::Device;
 use std::alloc::{AllocError, Global};
 use std::marker::Model;
-use std::mem;
-
-/// A reply with its data.
-#[derive(Drop)]
-pub struct Given {
-    /// The reply.
-    pub reply: Reply,
-    /// Its data.
-    pub data: Vec<u8>,
-}
 
 /// A device, and room for the data of a reply. A clause sees the device's state.
 #[derive(Drop)]
 pub struct FrameDevice {
     /// On the heap, since it is moved from hand to hand while a file is opened.
     device: Box<Device>,
-    /// Made at the first event. A reply whose data couldn't be copied takes it along, and the next event makes it anew.
+    /// Made at the first event. No one reads what replies leave in it.
     output: Vec<u8>,
 }
 
@@ -124,13 +114,9 @@ fn tight_base_of(alloc: Global, device: &Device) -> Result<Vec<u8>, AllocError>
 }
 
 impl Machine for FrameDevice {
-    type Reply = Option<Given>;
-
     ghost loads = { IsDeviceBase };
 
     ghost next = { next_state };
-
-    ghost replies = { HasReplied };
 
     ghost one_base = { one_device };
 
@@ -157,10 +143,9 @@ impl Machine for FrameDevice {
         Ok(Some((device, length)))
     }
 
-    fn apply(&mut self, alloc: Global, frame: &[u8]) -> Result<Applied<Option<Given>>, AllocError> {
+    fn apply(&mut self, _: Global, frame: &[u8]) -> Result<Applied, AllocError> {
         let Some(event) = event_in(frame) else {
             return Ok(Applied {
-                reply: None,
                 changes: false,
                 starved: false,
             });
@@ -168,14 +153,9 @@ impl Machine for FrameDevice {
         // Room first: what is done can't be taken back.
         make_room(&mut self.output)?;
         let reply = perform(&mut *self.device, &event, &mut self.output);
-        let data = front_of(alloc, &mut self.output, reply.data_length());
         let changes = may_change(&event, &reply);
         let starved = is_want_of_memory(&reply);
-        Ok(Applied {
-            reply: Some(Given { reply, data }),
-            changes,
-            starved,
-        })
+        Ok(Applied { changes, starved })
     }
 }
 
@@ -191,21 +171,6 @@ fn make_room(output: &mut Vec<u8>) -> Result<(), AllocError>
         output.resize(MOST_TRANSFER, 0)?;
     }
     Ok(())
-}
-
-/// The first bytes of a buffer. Where memory is wanting for a copy of them, the buffer itself is given away.
-fn front_of(alloc: Global, output: &mut Vec<u8>, size: usize) -> Vec<u8>
-    requires { size ≤ length output.old.items }
-    ensures { result.items ≡ take size output.old.items }
-{
-    match output[..size].to_vec(alloc) {
-        Ok(data) => data,
-        Err(AllocError) => {
-            let mut data = mem::replace(output, Vec::new(alloc));
-            data.truncate(size);
-            data
-        }
-    }
 }
 
 /// Does an event, from its data where that lies. The data of the reply goes to the front of `output`.

@@ -2,7 +2,7 @@
 
 ghost use Rattle.durable_device.specs.Again.{ChangesComeAgain};
 ghost use Rattle.durable_device.specs.Kept.{IsKept};
-ghost use Rattle.durable_device.specs.Laws.{ComesBack, FilesAreReached, FirstBatchesComeBack, FramesTellEvents};
+ghost use Rattle.durable_device.specs.Laws.{ComesBack, FilesAreReached, FramesTellEvents};
 
 use crate::DurableDevice;
 use stored_file::StoredFile;
@@ -22,12 +22,6 @@ pub fn changes_come_again()
 /// events leave, of which all laws of the device hold.
 pub fn files_are_reached()
     ensures { FilesAreReached }
-{}
-
-/// Of a file that a crash left while batches were served, the device is opened after the events of the first of them: some of them,
-/// none skipped and none in part.
-pub fn first_batches_come_back()
-    ensures { FirstBatchesComeBack }
 {}
 
 /// Whatever a crash leaves of a device at rest, that device is opened of it: so no event is lost that was acknowledged.

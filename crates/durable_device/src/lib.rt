@@ -12,9 +12,9 @@ mod notes;
 mod reading;
 mod sections;
 
-pub use changes::{asks_change, is_refusal};
+pub use changes::{asks_change, is_idle, is_refusal};
 pub use durable_device::{DurableDevice, Folding, MOST_JOURNAL};
 pub use folding::Folds;
-pub use frame_device::{FrameDevice, Given, base_of};
+pub use frame_device::{FrameDevice, base_of};
 pub use notes::{may_change, note, note_submission, note_turn};
 pub use reading::device_in;

@@ -8,7 +8,7 @@ ghost use Rattle.device_meaning.specs.State.{State};
 ghost use Rattle.durable_device.specs.Changing.{HasIdentifier, may_change};
 ghost use Rattle.durable_device.specs.Machine.{next_state};
 
-use crate::{FrameDevice, asks_change, is_refusal};
+use crate::{FrameDevice, asks_change, is_idle, is_refusal};
 use durable_machine::Store;
 use event_frames::{header, state_number};
 use nvme_entry::Entry;
@@ -103,7 +103,7 @@ pub fn may_change(event: &Event, reply: &Reply) -> bool
             let _identifier = Entry::cid(entry);
             asks_change(entry) && !is_refusal(reply)
         }
-        Event::Turn { .. } => !matches!(reply, Reply::Idle),
+        Event::Turn { .. } => !is_idle(reply),
         Event::Fault { .. } => matches!(reply, Reply::FaultTaken),
     }
 }

@@ -11,7 +11,7 @@ use runner::Device;
 use std::alloc::Global;
 
 /// The device that the bytes of a file stand for, in a state that events leave. It is that of
-/// [`DurableDevice::open`](crate::DurableDevice::open), which the same bytes open and refuse; but nothing is brought to a disk.
+/// [`DurableDevice::open_read`](crate::DurableDevice::open_read), which the same bytes open and refuse; but nothing is brought to a disk.
 ///
 /// # Errors
 ///

@@ -1,16 +1,14 @@
 -- What files stand for, while a batch is added and when they are opened.
-use Rattle.std.proofs.Common.{◌≡◌, arith, ◌⊎◌, inl, inr, ◌≤◌, ℕ, Bool, false, List, [], ◌∷◌, ◌++◌, length, take, refl, sym, ◌∙◌, ap, subst, append_assoc, length-append}
+use Rattle.std.proofs.Common.{◌≡◌, arith, ◌≤◌, ℕ, Bool, false, List, [], ◌∷◌, ◌++◌, length, take, refl, sym, ◌∙◌, ap, subst, append_assoc, length-append}
 use Rattle.std.proofs.lemmas.List.{append-nil, take_at}
 use Rattle.std.proofs.lemmas.List.Sums.{fold-append}
 use Rattle.stored_file.specs.File.{FileState, IsAsBefore, MayLeave, IsWhole, LeavesOnly}
 use Rattle.stored_file.proofs.Moments.{started}
-use Rattle.durable_machine.specs.Events.{spelled}
-use Rattle.durable_machine.specs.Journal.{StandsFor, IsAt}
+use Rattle.durable_machine.specs.Journal.{StandsFor}
 use Rattle.durable_machine.proofs.Frames.{one_meaning, frames_whole}
 use Rattle.durable_machine.proofs.Steps.{at_rest, rests_as_before}
-use Rattle.durable_machine.specs.Runs.{state_again, HasRun}
+use Rattle.durable_machine.specs.Runs.{state_again}
 use Rattle.durable_machine.specs.Files.{IsFront, IsStateAt, IsState, KeepsState, IsDurable, joined, whole_sectors}
-use Rattle.durable_machine.specs.Batches.{IsBeforeOrAfter}
 
 pub joined-append : (xs ys : List (List (List ℕ))) → joined (xs ++ ys) ≡ joined xs ++ joined ys
 joined-append [] ys = refl
@@ -74,30 +72,6 @@ module _ {S : Type 0} (loads : List ℕ → S → Type 0) (next : S → Bool →
 
     pub nothing_done : (P : List ℕ → Type 0) → ((c : List ℕ) → IsState loads next c machine → P c) → LeavesOnly file file P
     nothing_done P so = started file P (λ c left. so c (rests_before c left))
-
-    module _ {R : Type 0} (replies : S → Bool → List ℕ → R → Type 0) (events : List (List ℕ)) (new : S) (given : List R) (bytes : List ℕ) (run : HasRun next replies events machine new given bytes) where
-      leads_on : new ≡ state_again next (joined (durable.batches ++ run.changes ∷ [])) durable.first
-      leads_on = again-push next durable.batches run.changes durable.first machine new durable.leads run.again
-
-      -- one that has those and the new one stands for the state after them
-      pub is_either : (c : List ℕ) → StandsFor durable.front durable.batches c ⊎ StandsFor durable.front (durable.batches ++ run.changes ∷ []) c → IsBeforeOrAfter loads next events machine c
-      is_either c (inl stands) = inl (is_before c stands)
-      is_either c (inr stands) = inr (
-        new,
-        (run.occurrences, run.are, run.state),
-        (stands.0, record { front = durable.front; first = durable.first; begins = durable.begins; batches = durable.batches ++ run.changes ∷ []; has = stands.1; leads = leads_on }),
-      )
-
-      pub stays_durable : (end : ℕ) (later : FileState) → IsAt durable.front (durable.batches ++ run.changes ∷ []) end later → IsDurable loads next new end later
-      stays_durable end later rests = record { front = durable.front; first = durable.first; begins = durable.begins; batches = durable.batches ++ run.changes ∷ []; rests = rests; leads = leads_on }
-
-      -- where nothing changed, the state is the same
-      pub idle : length bytes ≡ 0 → IsDurable loads next new gate file
-      idle none = record { front = durable.front; first = durable.first; begins = durable.begins; batches = durable.batches; rests = durable.rests; leads = run.again ∙ nothing run.changes run.are_spelled ∙ durable.leads }
-        where
-          nothing : (changes : List (List ℕ)) → bytes ≡ spelled changes → state_again next changes machine ≡ machine
-          nothing [] are = refl
-          nothing (change ∷ changes) are = absurd (omega (arith, ap length are, none))
 
 -- where a file's batches end, a sector begins
 pub end_whole : {S : Type 0} (loads : List ℕ → S → Type 0) (next : S → Bool → List ℕ → S) (end : ℕ) (file : List ℕ) (s : S) (is : IsStateAt loads next end file s) → IsWhole end × IsWhole (length is.front) × (end ≤ length file)

@@ -1,5 +1,3 @@
-pub mod Ahead
-pub mod Batches
 pub mod ComingBack
 pub mod Comparing
 pub mod Crash
@@ -15,7 +13,6 @@ pub mod Repairing
 pub mod Replaying
 pub mod Restarting
 pub mod Rounds
-pub mod Running
 pub mod Salvaging
 pub mod Sealing
 pub mod Spelling

@@ -1,8 +1,7 @@
 -- A sector after some bytes, what is written over it and after it, and what a crash leaves of that.
-use Rattle.std.proofs.Common.{◌≡◌, ◌+◌, ◌-◌, ℕ, List, ◌++◌, length, take, drop, refl, sym, ◌∙◌, ap, arith, append_assoc, length-append, take-append-drop}
+use Rattle.std.proofs.Common.{◌≡◌, ◌+◌, ℕ, List, ◌++◌, length, take, drop, sym, ◌∙◌, ap, arith, append_assoc, length-append, take-append-drop}
 use Rattle.std.proofs.lemmas.List.{take_at, drop_at, drop-drop}
 use Rattle.stored_file.specs.File.{is_written, Torn}
-use Rattle.stored_file.specs.Rounds.{TornBoth}
 
 module _ (begin sector : List ℕ) (gate : ℕ) (ends : gate ≡ length begin) (size : length sector ≡ 4096) where
   apart : (rest : List ℕ) → begin ++ (sector ++ rest) ≡ (begin ++ sector) ++ rest
@@ -45,27 +44,10 @@ module _ (begin sector : List ℕ) (gate : ℕ) (ends : gate ≡ length begin) (
         ∙ ap (λ (l : List ℕ). l ++ drop (gate + 4096) c) (torn.before ∙ up_to_gate)
         ∙ append_assoc begin sector (drop (gate + 4096) c)
 
-    -- and of a round: the sector is written, and what stands after some bytes after it
-    module _ (bytes past : List ℕ) (has : rest ≡ bytes ++ past) (second : ℕ) (far : second ≡ gate + 4096 + length bytes) (c : List ℕ) (torn : TornBoth gate 4096 second file c) where
-      count : second - (gate + 4096) ≡ length bytes
-      count = omega (arith, far)
-
-      kept : take (length bytes) (drop (gate + 4096) c) ≡ bytes
-      kept =
-          ap (λ (n : ℕ). take n (drop (gate + 4096) c)) (sym count)
-          ∙ torn.between
-          ∙ ap (λ (n : ℕ). take n (drop (gate + 4096) file)) count
-          ∙ ap (λ (l : List ℕ). take (length bytes) l) (after_gate ∙ has)
-          ∙ take_at bytes past (length bytes) refl
-
-      behind : drop 4096 (drop gate c) ≡ bytes ++ drop (length bytes) (drop (gate + 4096) c)
-      behind =
-          drop-drop 4096 gate c
-          ∙ sym (take-append-drop (length bytes) (drop (gate + 4096) c))
-          ∙ ap (λ (l : List ℕ). l ++ drop (length bytes) (drop (gate + 4096) c)) kept
-
-      pub torn_round : c ≡ begin ++ (take 4096 (drop gate c) ++ (bytes ++ drop (length bytes) (drop (gate + 4096) c)))
-      torn_round =
-          sym (take-append-drop gate c)
-          ∙ ap (λ (l : List ℕ). l ++ drop gate c) (torn.before ∙ before_gate)
-          ∙ ap (λ (l : List ℕ). begin ++ l) (sym (take-append-drop 4096 (drop gate c)) ∙ ap (λ (l : List ℕ). take 4096 (drop gate c) ++ l) behind)
+    -- and of a write over the sector itself
+    pub torn_gate : (c : List ℕ) → Torn gate 4096 file c → c ≡ begin ++ (take 4096 (drop gate c) ++ rest)
+    torn_gate c torn =
+        let behind : drop 4096 (drop gate c) ≡ rest = drop-drop 4096 gate c ∙ torn.after ∙ after_gate in
+        sym (take-append-drop gate c)
+        ∙ ap (λ (l : List ℕ). l ++ drop gate c) (torn.before ∙ before_gate)
+        ∙ ap (λ (l : List ℕ). begin ++ l) (sym (take-append-drop 4096 (drop gate c)) ∙ ap (λ (l : List ℕ). take 4096 (drop gate c) ++ l) behind)

@@ -1,5 +1,5 @@
 -- Events that wait, and a file to which they are committed.
-use Rattle.std.proofs.Common.{◌≡◌, ◌⊎◌, ◌<◌, ◌^◌, inl, inr, ℕ, Bool, false, List, [], ◌∷◌, ◌++◌, length, take, refl, sym, ap, subst, ◌∙◌, if◌then◌else◌}
+use Rattle.std.proofs.Common.{◌≡◌, ◌⊎◌, ◌<◌, ◌^◌, inl, inr, ℕ, Bool, false, List, [], ◌∷◌, ◌++◌, length, take, refl, sym, ap, subst, ◌∙◌}
 use Rattle.std.proofs.lemmas.List.{take_at}
 use Rattle.std.proofs.lemmas.List.Sums.{fold-append}
 use Rattle.stored_file.specs.File.{FileState, LeavesOnly}
@@ -7,24 +7,14 @@ use Rattle.durable_machine.specs.Events.{spelled}
 use Rattle.durable_machine.specs.Journal.{IsAt, StandsFor}
 use Rattle.durable_machine.proofs.Spelling.{sized-append, spelled-append}
 use Rattle.durable_machine.proofs.Steps.{at_rest}
-use Rattle.durable_machine.specs.Files.{IsState, IsDurable, IsOldOrStands, joined}
+use Rattle.durable_machine.specs.Files.{IsState, IsDurable, joined}
 use Rattle.durable_machine.specs.Runs.{state_again}
-use Rattle.durable_machine.specs.Batches.{HasServed, IsBeforeOrAfter}
-use Rattle.durable_machine.specs.Waiting.{HasAnswered, IsCommittedBut, IsEither}
-use Rattle.durable_machine.proofs.Running.{one_more_run}
-use Rattle.durable_machine.proofs.Files.{again-push, is_before, nothing_done, one_state, rests_before}
+use Rattle.durable_machine.specs.Waiting.{IsCommittedBut, IsEither}
+use Rattle.durable_machine.proofs.Files.{again-push, is_before, nothing_done, one_state}
 
 -- what was put after others is taken back
 pub taken_back : (all waiting more : List ℕ) (n : ℕ) → all ≡ waiting ++ more → n ≡ length waiting → take n all ≡ waiting
 taken_back all waiting more n is count = ap (take n) is ∙ take_at waiting more n (sym count)
-
--- one event more is served
-pub served_more : {S R : Type 0} (next : S → Bool → List ℕ → S) (replies : S → Bool → List ℕ → R → Type 0) (events : List (List ℕ)) (event : List ℕ) (old mid new : S) (given : List R) (reply : R)
-    → HasServed next replies events old mid given → HasAnswered next replies event mid new reply → length event < 2 ^ 64 → HasServed next replies (events ++ event ∷ []) old new (given ++ reply ∷ [])
-served_more next replies events event old mid new given reply served answered sized = (
-  (if answered.0 then served.0 ++ spelled (event ∷ []) else served.0),
-  one_more_run next replies events event old mid new given served.0 (if answered.0 then served.0 ++ spelled (event ∷ []) else served.0) (record { reply = reply; changes = answered.0; starved = answered.1 }) served.1 answered.2 refl (λ _. sized),
-)
 
 module _ {S : Type 0} (loads : List ℕ → S → Type 0) (next : S → Bool → List ℕ → S) where
   -- a machine that is kept is committed where nothing waits
@@ -109,15 +99,3 @@ module _ {S : Type 0} (loads : List ℕ → S → Type 0) (next : S → Bool →
       -- nothing is done
       pub stays : LeavesOnly file file (IsEither loads next before s)
       stays = nothing_done loads next before gate file durable (IsEither loads next before s) (λ c stands. inl stands)
-
-  -- one of two states, where events led from the first to the second
-  pub before_or_after : {R : Type 0} (replies : S → Bool → List ℕ → R → Type 0) (events : List (List ℕ)) (old new : S) (given : List R) → HasServed next replies events old new given
-      → (c : List ℕ) → IsEither loads next old new c → IsBeforeOrAfter loads next events old c
-  before_or_after replies events old new given served c (inl before) = inl before
-  before_or_after replies events old new given served c (inr after) = inr (new, (served.1.occurrences, served.1.are, served.1.state), after)
-
-  -- what a crash left before is the first of two states
-  pub old_or_stands : (before after : S) (gate : ℕ) (file : FileState) → IsDurable loads next before gate file
-      → (c : List ℕ) → IsOldOrStands loads next file after c → IsEither loads next before after c
-  old_or_stands before after gate file durable c (inl left) = inl (rests_before loads next before gate file durable c left)
-  old_or_stands before after gate file durable c (inr stands) = inr stands

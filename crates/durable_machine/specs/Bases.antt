@@ -11,10 +11,6 @@ module _ {S : Type 0} (loads : List ℕ → S → Type 0) where
   abbrev pub BeginsNoBase : List ℕ → Type 0
   BeginsNoBase file = (base rest : List ℕ) (s : S) → loads base s → file ≡ base ++ rest → ⊥
 
-  -- no base stands for this machine
-  abbrev pub HasNoBase : S → Type 0
-  HasNoBase s = (base : List ℕ) → loads base s → ⊥
-
   -- a base at the front of a file that begins with these bytes is among them, or it has at least this many bytes, which are more
   abbrev pub NeedsBytes : ℕ → List ℕ → Type 0
   NeedsBytes n front =

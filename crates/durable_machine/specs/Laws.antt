@@ -1,21 +1,13 @@
 -- What is opened after a crash.
-use Rattle.std.specs.Prelude.{◌≡◌, ◌⊎◌, ◌≤◌, ℕ, Bool, List, length, take}
+use Rattle.std.specs.Prelude.{◌≡◌, ◌⊎◌, ℕ, Bool, List}
 use Rattle.stored_file.specs.File.{FileState, MayLeave}
-use Rattle.durable_machine.specs.Files.{IsItsState, IsState, KeepsState, joined}
-use Rattle.durable_machine.specs.Batches.{IsAfterSome, LedTo}
+use Rattle.durable_machine.specs.Files.{IsItsState, IsState, KeepsState}
 use Rattle.durable_machine.specs.Refused.{IsDamaged}
 use Rattle.durable_machine.specs.Restart.{MayBeLeft}
 use Rattle.durable_machine.specs.Runs.{state_again}
 
 module _ {S : Type 0} (loads : List ℕ → S → Type 0) (next : S → Bool → List ℕ → S) where
-  -- of a file that a crash left while batches were served, the machine after the first of them is opened
-  abbrev pub FirstBatchesComeBack : Type 0
-  FirstBatchesComeBack =
-      (batches : List (List (List ℕ))) (old opened : S) (left : List ℕ)
-      → IsAfterSome loads next batches old left → IsItsState loads next left opened
-      → (n : ℕ) × (n ≤ length batches) × LedTo next (joined (take n batches)) old opened
-
-  -- of one that a crash left while it was opened, the same machine as before
+  -- of a file that a crash left while it was opened, the same machine is opened as before
   abbrev pub OpeningChangesNothing : Type 0
   OpeningChangesNothing =
       (file left : List ℕ) (first second : S)

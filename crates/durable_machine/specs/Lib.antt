@@ -1,4 +1,3 @@
-pub mod Ahead
 pub mod Applied
 pub mod Bases
 pub mod Batches

@@ -1,8 +1,8 @@
--- A journal of which one batch may be staged: it is on the disk, whole, and not counted, since its gate is closed.
-use Rattle.std.specs.Prelude.{◌≡◌, ℕ, ◌+◌, List, [], ◌∷◌, ◌++◌, length}
+-- A batch that is staged: it is on the disk, whole, and not counted yet, since its gate is closed.
+use Rattle.std.specs.Prelude.{◌≡◌, ℕ, ◌+◌, List, ◌∷◌, ◌++◌, length}
 use Rattle.stored_file.specs.File.{FileState, IsOnDisk, IsWhole}
 use Rattle.durable_machine.specs.Events.{spelled, AreSized}
-use Rattle.durable_machine.specs.Journal.{AreFrames, IsAt, closed_gate, payload_length}
+use Rattle.durable_machine.specs.Journal.{AreFrames, closed_gate, payload_length}
 use Rattle.durable_machine.specs.Seals.{seal_of}
 
 -- what is written after the closed gate at this offset for a batch: whole sectors, of the seal of its events, them and a 0 after them,
@@ -36,16 +36,3 @@ pub record HasStaged (gate next : ℕ) (file : FileState) : Type 0 where
   pub batches : List (List (List ℕ))
   pub staged : List (List ℕ)
   pub rests : IsStaged front batches staged gate next file
-
--- at rest, with both offsets at its gate, or with one batch staged
-abbrev pub IsPending : List ℕ → List (List (List ℕ)) → List (List (List ℕ)) → ℕ → ℕ → FileState → Type 0
-IsPending front batches [] gate next file = IsAt front batches gate file × (next ≡ gate)
-IsPending front batches (staged ∷ []) gate next file = IsStaged front batches staged gate next file
-IsPending front batches (staged ∷ second ∷ more) gate next file = ⊥
-
--- and it is so with some front, some batches and some that are pending
-pub record IsUnderWay (gate next : ℕ) (file : FileState) : Type 0 where
-  pub front : List ℕ
-  pub batches : List (List (List ℕ))
-  pub pending : List (List (List ℕ))
-  pub rests : IsPending front batches pending gate next file

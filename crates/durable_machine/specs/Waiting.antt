@@ -2,14 +2,8 @@
 use Rattle.std.specs.Prelude.{◌≡◌, ◌⊎◌, ℕ, Bool, List}
 use Rattle.stored_file.specs.File.{FileState}
 use Rattle.durable_machine.specs.Events.{AreSized, spelled}
-use Rattle.durable_machine.specs.Applied.{HasApplied}
 use Rattle.durable_machine.specs.Runs.{state_again}
 use Rattle.durable_machine.specs.Files.{IsDurable, IsState}
-
--- an event led from one state to the other, with this reply
-abbrev pub HasAnswered : {S R : Type 0} → (S → Bool → List ℕ → S) → (S → Bool → List ℕ → R → Type 0) → List ℕ → S → S → R → Type 0
-HasAnswered next replies event old new reply =
-    (changes starved : Bool) × HasApplied next replies event old (record { reply = reply; changes = changes; starved = starved }) new
 
 module _ {S : Type 0} (loads : List ℕ → S → Type 0) (next : S → Bool → List ℕ → S) where
   -- a machine rests in the file, all of it on the disk, and the events that wait lead from it to this one, with memory given to each

@@ -6,7 +6,6 @@ ghost use Rattle.stored_file.specs.File.{FileState, LeavesOnly, MayLeave};
 use crate::Machine;
 use crate::batch::Batch;
 use crate::committing::commit;
-use crate::going_ahead::{settle, stage};
 use crate::journal::Journal;
 use crate::store::Store;
 use std::alloc::{AllocError, Global};
@@ -25,7 +24,6 @@ impl<M: Machine, F: StoredFile + Drop> Store<M> for InFile<F> {
     ghost use Rattle.durable_machine.specs.Seals.{events_of};
     ghost use Rattle.durable_machine.specs.Files.{IsDurable};
     ghost use Rattle.durable_machine.specs.Waiting.{IsCommittedBut};
-    ghost use Rattle.durable_machine.specs.Ahead.{IsAheadBut};
 
     type Disk = Journal<F>;
 
@@ -36,9 +34,6 @@ impl<M: Machine, F: StoredFile + Drop> Store<M> for InFile<F> {
     ghost waits = { λ store. events_of store.waiting };
 
     ghost keeps = { λ machine waiting journal. IsCommittedBut M.loads M.next waiting machine journal.gate (F.told journal.file) };
-
-    ghost ahead = { λ acked handed machine waiting journal.
-        IsAheadBut M.loads M.next waiting acked handed machine journal.gate journal.next (F.told journal.file) };
 
     ghost settled = { λ machine journal. IsDurable M.loads M.next machine journal.gate (F.told journal.file) };
 
@@ -56,29 +51,8 @@ impl<M: Machine, F: StoredFile + Drop> Store<M> for InFile<F> {
         commit::<M, F>(&mut self.journal, &mut self.waiting)
     }
 
-    fn go_ahead(&mut self) {
-        self.journal.next = self.journal.gate;
-    }
-
-    fn stage(&mut self, _: Global) -> Result<(), FileError> {
-        stage::<M, F>(&mut self.journal, &mut self.waiting)
-    }
-
-    fn settle(&mut self) -> Result<(), FileError> {
-        settle::<M, F>(&mut self.journal)
-    }
-
-    fn make_room(&mut self, alloc: Global, sectors: usize) -> Result<(), FileError> {
-        self.journal.make_room(alloc, sectors)?;
-        Ok(())
-    }
-
     fn is_committed(&self) -> bool {
         self.waiting.is_empty()
-    }
-
-    fn is_on_disk(&self) -> bool {
-        true
     }
 
     fn rests() {}

@@ -24,8 +24,6 @@ impl<M: Machine> Store<M> for InMemory {
 
     ghost keeps = { λ machine waiting d. Unit {0} };
 
-    ghost ahead = { λ acked handed machine waiting d. Unit {0} };
-
     ghost settled = { λ machine d. Unit {0} };
 
     fn note(&mut self, _: &[u8], _: &[u8], _: &[u8]) -> Result<usize, AllocError> {
@@ -38,26 +36,8 @@ impl<M: Machine> Store<M> for InMemory {
         Ok(())
     }
 
-    fn go_ahead(&mut self) {}
-
-    fn stage(&mut self, _: Global) -> Result<(), FileError> {
-        Ok(())
-    }
-
-    fn settle(&mut self) -> Result<(), FileError> {
-        Ok(())
-    }
-
-    fn make_room(&mut self, _: Global, _: usize) -> Result<(), FileError> {
-        Ok(())
-    }
-
     fn is_committed(&self) -> bool {
         true
-    }
-
-    fn is_on_disk(&self) -> bool {
-        false
     }
 
     fn rests() {}

@@ -1,28 +1,27 @@
 //! The journal.
 
-ghost use Rattle.std.specs.Prelude.{◌≡◌, ◌<◌, ◌≤◌, ◌^◌, ◌+◌, ◌++◌, [], ◌∷◌, List, ℕ, length, take, drop, IfOk, OnOk, OnErr, IsErrOf};
+ghost use Rattle.std.specs.Prelude.{◌≡◌, ◌<◌, ◌≤◌, ◌^◌, ◌+◌, ◌++◌, [], ◌∷◌, List, ℕ, length, take, drop, IfOk, OnOk, OnErr};
 ghost use Rattle.stored_file.specs.File.{IsWhole, LeavesNow, LeavesOnly};
 ghost use Rattle.stored_file.specs.Cause.{HasCause};
 ghost use Rattle.durable_machine.specs.Events.{spelled, AreSpelled, AreSized};
 ghost use Rattle.durable_machine.specs.Seals.{events_of};
-ghost use Rattle.durable_machine.specs.Journal.{HasBatches, StandsWithOrWithout, IsAt, IsSettled};
+ghost use Rattle.durable_machine.specs.Journal.{HasBatches, StandsFor, StandsWithOrWithout, IsAt, IsSettled};
+ghost use Rattle.durable_machine.specs.Staging.{HasStaged, IsStaged};
 ghost use Rattle.durable_machine.specs.LastBatch.{IsSameBut};
 
 use crate::batch::Batch;
-use crate::gates::closed_sector;
+use crate::gates::{closed_sector, open_sector};
 use crc32c::Sums;
 use std::alloc::AllocError;
 use stored_file::{FileError, SECTOR, StoredFile, write_durably};
 
-/// A journal, at rest or with one batch that is staged.
+/// A journal in a file.
 #[derive(Drop)]
 pub struct Journal<F: StoredFile> {
     /// Where it is kept.
     pub file: F,
     /// The offset of its closed gate.
     pub gate: usize,
-    /// The offset of the closed gate after the batch that is staged. It says something only while batches are staged.
-    pub next: usize,
     /// What makes the sums of batches.
     pub sums: Sums,
 }
@@ -110,6 +109,10 @@ impl<F: StoredFile> Journal<F> {
     /// Adds a batch of events, all or none. At `Ok` they are acknowledged: from then on each crash leaves a file that
     /// has them. At `Err`, the file has to be opened again.
     ///
+    /// It waits for the disk twice, before the batch's gate is opened and after, although the batch has a sum. With one sync for both, a
+    /// crash could leave the gate open and the batch torn, and a sum finds that only with high probability. So what a crash leaves is proved
+    /// without any assumption about sums; they only find bytes that changed on the disk by themselves.
+    ///
     /// # Errors
     ///
     /// No memory, or the disk's.
@@ -133,8 +136,64 @@ impl<F: StoredFile> Journal<F> {
         // It doesn't give up by itself.
         ensures cause { HasCause (F.told self.old.file) (F.told self.new.file) result }
     {
-        self.stage(batch)?;
-        self.settle()
+        let next = self.stage(batch)?;
+        self.open_gate(next)
+    }
+
+    /// Writes a batch of events after the closed gate, with a closed gate after it, and waits for the disk. It doesn't count yet. Gives
+    /// the offset of that gate.
+    ///
+    /// # Errors
+    ///
+    /// No memory, or the disk's.
+    fn stage(&mut self, batch: &mut Batch) -> Result<usize, FileError>
+        requires settled { IsSettled self.old.gate (F.told self.old.file) }
+        requires spelled { AreSpelled (events_of batch.old) }
+
+        ensures emptied { OnOk result (events_of batch.new ≡ []) }
+
+        ensures staged { IfOk result (λ next. (front : List ℕ) (before : List (List (List ℕ))) (added : List (List ℕ))
+            → IsAt front before self.old.gate (F.told self.old.file)
+            → AreSized added → events_of batch.old ≡ spelled added
+            → IsStaged front before added self.new.gate next (F.told self.new.file)) }
+
+        // A crash at any moment of the call leaves the batches from before it.
+        ensures any_moment { (front : List ℕ) (before : List (List (List ℕ)))
+            → IsAt front before self.old.gate (F.told self.old.file)
+            → LeavesOnly (F.told self.old.file) (F.told self.new.file) (StandsFor front before) }
+
+        ensures cause { HasCause (F.told self.old.file) (F.told self.new.file) result }
+    {
+        batch.seal(&self.sums, self.gate)?;
+        write_durably(&mut self.file, self.gate + SECTOR, &batch.bytes)?;
+        let next = self.gate + batch.bytes.len();
+        batch.clear();
+        Ok(next)
+    }
+
+    /// Opens the gate of the batch that is staged, and waits for the disk. At `Ok` the batch is acknowledged, and the gate after it, at
+    /// this offset, ends the journal.
+    ///
+    /// # Errors
+    ///
+    /// No memory, or the disk's.
+    fn open_gate(&mut self, next: usize) -> Result<(), FileError>
+        requires staged { HasStaged self.old.gate next (F.told self.old.file) }
+
+        ensures acknowledged { OnOk result ((front : List ℕ) (before : List (List (List ℕ))) (staged : List (List ℕ))
+            → IsStaged front before staged self.old.gate next (F.told self.old.file)
+            → IsAt front (before ++ staged ∷ []) self.new.gate (F.told self.new.file)) }
+
+        // A crash at any moment of the call leaves the batches from before it, with the staged one or without.
+        ensures any_moment { (front : List ℕ) (before : List (List (List ℕ))) (staged : List (List ℕ))
+            → IsStaged front before staged self.old.gate next (F.told self.old.file)
+            → LeavesOnly (F.told self.old.file) (F.told self.new.file) (StandsWithOrWithout front before (staged ∷ [])) }
+
+        ensures cause { HasCause (F.told self.old.file) (F.told self.new.file) result }
+    {
+        write_durably(&mut self.file, self.gate, &open_sector())?;
+        self.gate = next;
+        Ok(())
     }
 }
 

@@ -10,10 +10,10 @@
 //! bytes, the lowest first), and zeros up to the end of a sector. At the end stands a closed gate, a sector of zeros. What stands after
 //! it doesn't count.
 //!
-//! A batch is written after the closed gate, with a closed gate of its own after it. When that is on the disk, the gate is opened: at
-//! once, or, under load, in the round of writes that brings the next batch to the disk. So what is torn stands after a closed gate, or
-//! is a gate that was to be opened and has a whole batch after it; no sum is trusted, and no length that isn't known is followed. As
-//! a gate has a sector of its own, a disk may tear the whole sector where it writes one byte of it.
+//! A batch is written after the closed gate, with a closed gate of its own after it. When that is on the disk, the gate is opened. So
+//! what is torn stands after a closed gate, or is a gate that was to be opened and has a whole batch after it; no sum is trusted, and no
+//! length that isn't known is followed. As a gate has a sector of its own, a disk may tear the whole sector where it writes one byte of
+//! it.
 //!
 //! The seal has the offset of the batch's gate in the file, how many bytes spell its events, and the CRC-32C of these numbers and of the
 //! events. A gate that isn't closed with more than its sector, where no batch stands whole and sealed, is nothing that a crash leaves: it
@@ -23,11 +23,9 @@
 mod base;
 mod batch;
 mod committing;
-mod durable;
 mod fault;
 mod finding;
 mod gates;
-mod going_ahead;
 mod in_file;
 mod in_memory;
 mod journal;
@@ -39,22 +37,21 @@ mod pieces;
 mod reading;
 mod replay;
 mod rescue;
-mod room;
 mod seal;
 mod sectors;
-mod staging;
 mod store;
 
 pub use base::put_base;
 pub use batch::Batch;
-pub use durable::Durable;
 pub use fault::Fault;
 pub use finding::{Found, find};
 pub use in_file::InFile;
 pub use in_memory::InMemory;
 pub use journal::{Journal, add_event, repair};
 pub use journal_reading::{first_batch, first_event, is_end};
-pub use machine::{Applied, Machine, Saves};
+pub use machine::{Applied, Machine};
+pub use opening::Durable;
 pub use reading::machine_in;
 pub use rescue::{Salvaged, salvage};
+pub use sectors::in_sectors;
 pub use store::Store;

@@ -2,15 +2,13 @@
 
 ghost use Rattle.std.specs.Prelude.{◌≡◌, ℕ, Bool, List, ◌++◌, IfOk, OnErr, MatchOption};
 ghost use Rattle.durable_machine.specs.Applied.{HasApplied};
-ghost use Rattle.durable_machine.specs.Bases.{BeginsNoBase, BeginsBase, HasNoBase, NeedsBytes};
+ghost use Rattle.durable_machine.specs.Bases.{BeginsNoBase, BeginsBase, NeedsBytes};
 
 use std::alloc::{AllocError, Global};
 
 /// What an event came to.
-#[derive(Drop)]
-pub struct Applied<R: Drop> {
-    /// The reply.
-    pub reply: R,
+#[derive(Clone, Copy)]
+pub struct Applied {
     /// Whether the machine may have changed. Where memory was refused, it hasn't.
     pub changes: bool,
     /// Whether memory may have been refused. Where it wasn't, the event leads to the same wherever memory is given.
@@ -20,17 +18,11 @@ pub struct Applied<R: Drop> {
 /// A machine to which events happen, each of them given by its bytes. What happens is determined, but for whether
 /// memory is refused.
 pub trait Machine {
-    /// What is told of an event.
-    type Reply: Drop;
-
     /// The machine that a base stands for.
     ghost loads: { List ℕ → Self → Type 0 };
 
     /// What an event leads to, where memory is refused or not.
     ghost next: { Self → Bool → List ℕ → Self };
-
-    /// What is replied to it.
-    ghost replies: { Self → Bool → List ℕ → Self.Reply → Type 0 };
 
     /// How many bytes a base at the front of a file has at least, by the file's first bytes; more than these, where it isn't all among
     /// them. A file is read so far before its base is loaded. Where nothing is told of a base, all of it is.
@@ -56,22 +48,11 @@ pub trait Machine {
     ///
     /// # Errors
     ///
-    /// No memory for the reply. Then the machine is as it was.
-    fn apply(&mut self, alloc: Global, event: &[u8]) -> Result<Applied<Self::Reply>, AllocError>
+    /// No memory to begin it. Then the machine is as it was.
+    fn apply(&mut self, alloc: Global, event: &[u8]) -> Result<Applied, AllocError>
         ensures refused { OnErr result (self.new ≡ self.old) }
-        ensures done { IfOk result (λ done. HasApplied next replies event.now self.old done self.new) };
+        ensures done { IfOk result (λ done. HasApplied next event.now self.old done self.new) };
 
     /// A file begins with one base, which stands for one machine.
     ghost one_base: { (a b x y : List ℕ) (s t : Self) → loads a s → loads b t → a ++ x ≡ b ++ y → (a ≡ b) × (s ≡ t) };
-}
-
-/// A machine that can be told as a base, in some of its states or in all.
-pub trait Saves: Machine {
-    /// A base that stands for the machine as it is; `None` where no base does.
-    ///
-    /// # Errors
-    ///
-    /// No memory.
-    fn save(&self, alloc: Global) -> Result<Option<Vec<u8>>, AllocError>
-        ensures { IfOk result (λ made. MatchOption made (HasNoBase Self.loads self.now) (λ base. Self.loads base.items self.now)) };
 }

@@ -1,11 +1,10 @@
-//! Machines whose events are kept in a file.
+//! Machines whose events are kept in a file, as they are opened and made.
 
-ghost use Rattle.std.specs.Prelude.{◌≡◌, ◌<◌, [], IfOk, IfErr, IsErrOf, OnOk};
+ghost use Rattle.std.specs.Prelude.{◌≡◌, ◌<◌, [], IfOk, IfErr};
 ghost use Rattle.stored_file.specs.File.{LeavesOnly};
-ghost use Rattle.stored_file.specs.Cause.{HasCause};
 ghost use Rattle.stored_file.specs.declared.stored_file.FileError.TheVariants.{NoRoom, Failed};
 ghost use Rattle.durable_machine.specs.Seals.{events_of};
-ghost use Rattle.durable_machine.specs.Files.{IsState, IsItsState, IsDurable, IsInBase, IsOldOrStands};
+ghost use Rattle.durable_machine.specs.Files.{IsItsState, IsDurable, IsInBase, IsOldOrStands};
 ghost use Rattle.durable_machine.specs.Pieces.{IsFound};
 ghost use Rattle.durable_machine.specs.Restart.{IsRestarted, KeepsRestarted};
 ghost use Rattle.durable_machine.specs.Refused.{Refuses};
@@ -14,23 +13,35 @@ use crate::base::put_base;
 use crate::batch::Batch;
 use crate::finding::find;
 use crate::journal::{Journal, repair};
-use crate::{Durable, Fault, Found, InFile, Machine};
+use crate::{Fault, Found, InFile, Machine};
 use crc32c::Sums;
 use std::alloc::Global;
-use stored_file::{FileError, SliceReading, StoredFile, read_whole};
+use stored_file::{FileError, SliceReading, StoredFile};
 
-impl<M: Machine + Drop, F: StoredFile + Drop> Durable<M, InFile<F>> {
-    /// Opens a file that a crash may have left, or an earlier program that failed to bring its last batch to the disk. At `Ok` all that
-    /// it stands for is there. It may crash too, at any moment, and then the file stands for the same state; or for that from before
-    /// the last batch, where that wasn't on the disk. An `Err` hands the file back.
+/// A machine, and the journal of its events in a file. Each event is noted before it is done, and what was done may go out once it is
+/// committed ([`Store`](crate::Store)).
+#[derive(Drop)]
+pub struct Durable<M: Drop, F: StoredFile + Drop> {
+    /// The machine.
+    pub machine: M,
+    /// What keeps its events.
+    pub events: InFile<F>,
+}
+
+impl<M: Machine + Drop, F: StoredFile + Drop> Durable<M, F> {
+    /// Opens a file of which these bytes were read, and reads nothing of it. A crash may have left the file, or an earlier program that
+    /// failed to bring its last batch to the disk. At `Ok` all that it stands for is there. It may crash too, at any moment, and then the
+    /// file stands for the same state; or for that from before the last batch, where that wasn't on the disk. An `Err` hands the file
+    /// back.
     ///
     /// # Errors
     ///
     /// The file doesn't begin with a base in whole sectors, or has what no crash leaves: then it stands for no state, and stays
     /// as it is. No memory, or the disk's.
-    pub fn open(alloc: Global, mut file: F) -> Result<Durable<M, InFile<F>>, (Fault, F)>
+    pub fn open_read(alloc: Global, file: F, bytes: &[u8]) -> Result<Durable<M, F>, (Fault, F)>
         // What is read is on the disk, but for what an earlier program did last.
         requires restarted { IsRestarted M.loads M.next (F.told file) }
+        requires read { bytes.now ≡ (F.told file).seen }
 
         ensures state { IfOk result (λ store. IsItsState M.loads M.next (F.told file).seen store.machine) }
         ensures durable { IfOk result (λ store.
@@ -43,41 +54,14 @@ impl<M: Machine + Drop, F: StoredFile + Drop> Durable<M, InFile<F>> {
 
         ensures refused { IfErr result (λ refusal. Refuses M.loads M.next (F.told file) (F.told refusal.1) refusal.0) }
     {
-        match read_whole(alloc, &mut file) {
-            Ok(bytes) => Durable::open_read(alloc, file, &bytes),
-            Err(error) => Err((Fault::from(error), file)),
-        }
-    }
-
-    /// Opens a file of which these bytes were read, as [`Durable::open`] does, and reads nothing of it.
-    ///
-    /// # Errors
-    ///
-    /// Those of [`Durable::open`].
-    pub fn open_read(
-        alloc: Global,
-        file: F,
-        bytes: &[u8],
-    ) -> Result<Durable<M, InFile<F>>, (Fault, F)>
-        requires restarted { IsRestarted M.loads M.next (F.told file) }
-        requires read { bytes.now ≡ (F.told file).seen }
-
-        ensures state { IfOk result (λ store. IsItsState M.loads M.next (F.told file).seen store.machine) }
-        ensures durable { IfOk result (λ store.
-            IsDurable M.loads M.next store.machine store.events.journal.gate (F.told store.events.journal.file)) }
-        ensures none { IfOk result (λ store. events_of store.events.waiting ≡ []) }
-        ensures any_moment { IfOk result (λ store. KeepsRestarted M.loads M.next (F.told file) (F.told store.events.journal.file)) }
-        ensures any_moment_err { IfErr result (λ refusal. KeepsRestarted M.loads M.next (F.told file) (F.told refusal.1)) }
-        ensures refused { IfErr result (λ refusal. Refuses M.loads M.next (F.told file) (F.told refusal.1) refusal.0) }
-    {
         match find(alloc, &mut SliceReading::new(bytes)) {
             Ok(found) => Durable::open_found(alloc, file, found),
             Err(fault) => Err((fault, file)),
         }
     }
 
-    /// Opens a file in which this was found ([`find`](crate::find)), as [`Durable::open`] does, and reads nothing of it. So a file is
-    /// opened that isn't in memory.
+    /// Opens a file in which this was found ([`find`](crate::find)), as [`Durable::open_read`] does. So a file is opened that isn't in
+    /// memory.
     ///
     /// # Errors
     ///
@@ -86,7 +70,7 @@ impl<M: Machine + Drop, F: StoredFile + Drop> Durable<M, InFile<F>> {
         alloc: Global,
         mut file: F,
         found: Found<M>,
-    ) -> Result<Durable<M, InFile<F>>, (Fault, F)>
+    ) -> Result<Durable<M, F>, (Fault, F)>
         requires restarted { IsRestarted M.loads M.next (F.told file) }
         requires found { IsFound M.loads M.next found.end found.last found.gate.items (F.told file).seen found.machine }
 
@@ -105,7 +89,6 @@ impl<M: Machine + Drop, F: StoredFile + Drop> Durable<M, InFile<F>> {
                     journal: Journal {
                         file,
                         gate: found.end,
-                        next: found.end,
                         sums: Sums::new(),
                     },
                     waiting: Batch::new(alloc),
@@ -126,7 +109,7 @@ impl<M: Machine + Drop, F: StoredFile + Drop> Durable<M, InFile<F>> {
         machine: M,
         base: Vec<u8>,
         mut file: F,
-    ) -> Result<Durable<M, InFile<F>>, (FileError, F)>
+    ) -> Result<Durable<M, F>, (FileError, F)>
         requires stands { M.loads base.items machine }
 
         ensures same { IfOk result (λ store. store.machine ≡ machine) }
@@ -153,7 +136,6 @@ impl<M: Machine + Drop, F: StoredFile + Drop> Durable<M, InFile<F>> {
                     journal: Journal {
                         file,
                         gate,
-                        next: gate,
                         sums: Sums::new(),
                     },
                     waiting: Batch::new(alloc),
@@ -161,31 +143,5 @@ impl<M: Machine + Drop, F: StoredFile + Drop> Durable<M, InFile<F>> {
             }),
             Err(error) => Err((error, file)),
         }
-    }
-
-    /// Folds the journal into a new base, which stands for the machine: a new file has it in place of the old one, with an empty
-    /// journal after it. A crash at any moment leaves a file that stands for the same state. Where the disk has no room for the new
-    /// file, nothing has changed; at another `Err`, the file has to be opened again.
-    ///
-    /// # Errors
-    ///
-    /// No memory, no room, or the disk's.
-    pub fn fold(&mut self, base: Vec<u8>) -> Result<(), FileError>
-        requires stands { M.loads base.items self.old.machine }
-        requires durable { IsDurable M.loads M.next self.old.machine self.old.events.journal.gate (F.told self.old.events.journal.file) }
-        ensures same { self.new.machine ≡ self.old.machine }
-        ensures waiting { self.new.events.waiting ≡ self.old.events.waiting }
-        ensures acknowledged { OnOk result
-            (IsDurable M.loads M.next self.new.machine self.new.events.journal.gate (F.told self.new.events.journal.file)) }
-        ensures in_base { OnOk result
-            (IsInBase M.loads M.next self.new.machine self.new.events.journal.gate (F.told self.new.events.journal.file)) }
-        ensures no_room { IsErrOf result NoRoom →
-            IsDurable M.loads M.next self.new.machine self.new.events.journal.gate (F.told self.new.events.journal.file) }
-        ensures any_moment { LeavesOnly (F.told self.old.events.journal.file) (F.told self.new.events.journal.file)
-            (λ c. IsState M.loads M.next c self.old.machine) }
-        ensures cause { HasCause (F.told self.old.events.journal.file) (F.told self.new.events.journal.file) result }
-    {
-        self.events.journal.gate = put_base::<M, F>(base, &mut self.events.journal.file)?;
-        Ok(())
     }
 }

@@ -9,8 +9,8 @@ use crate::{Fault, Machine};
 use std::alloc::Global;
 use stored_file::SliceReading;
 
-/// The machine in the state that the bytes of a file stand for. It is that of [`Durable::open`](crate::Durable::open), which the same
-/// bytes open and refuse; but nothing is brought to a disk.
+/// The machine in the state that the bytes of a file stand for. It is that of [`Durable::open_read`](crate::Durable::open_read), which
+/// the same bytes open and refuse; but nothing is brought to a disk.
 ///
 /// # Errors
 ///

@@ -6,7 +6,7 @@ ghost use Rattle.durable_machine.specs.Files.{whole_sectors};
 use stored_file::SECTOR;
 
 /// The bytes of the sectors that so many bytes take.
-pub(crate) fn in_sectors(length: usize) -> usize
+pub fn in_sectors(length: usize) -> usize
     requires { length < 2 ^ 63 }
     ensures { result ≡ whole_sectors length }
 {

@@ -3,7 +3,7 @@
 ghost use Rattle.std.specs.Prelude.{◌≡◌, ◌↔◌, ℕ, List, ◌++◌, [], take, false, IfOk, IsTrue, OnErr, OnOk};
 ghost use Rattle.stored_file.specs.File.{FileState, LeavesOnly, MayLeave};
 ghost use Rattle.stored_file.specs.Cause.{HasCause};
-ghost use Rattle.durable_machine.specs.Files.{IsDurable, IsState};
+ghost use Rattle.durable_machine.specs.Files.{IsState};
 ghost use Rattle.durable_machine.specs.Waiting.{IsEither};
 
 use crate::Machine;
@@ -12,8 +12,7 @@ use stored_file::FileError;
 
 /// What keeps the events of a machine: a journal in a file, or nothing. An event is noted before it is done, so that nothing can fail
 /// between the deed and its note, and the note is taken back where the event changed nothing. What was done may go out once
-/// [`Store::commit`] has answered `Ok`, and not before. Under load, batches are handed in one after another by [`Store::stage`]: what was
-/// done may go out once the batch after it was handed in, or [`Store::settle`] has answered `Ok`.
+/// [`Store::commit`] has answered `Ok`, and not before.
 pub trait Store<M: Machine> {
     /// The part of it that is on a disk.
     type Disk;
@@ -33,9 +32,6 @@ pub trait Store<M: Machine> {
     /// All that led to this machine is committed, so it may go out.
     ghost settled: { M → Self.Disk → Type 0 };
 
-    /// What was acknowledged leads to the first machine, what was handed in to the second, and then the notes that wait to the third.
-    ghost ahead: { M → M → M → List ℕ → Self.Disk → Type 0 };
-
     /// Notes an event that is done next, of which the bytes stand in three parts, and gives how many bytes of notes there were before.
     ///
     /// # Errors
@@ -45,9 +41,6 @@ pub trait Store<M: Machine> {
         ensures noted { (machine : M) (event : List ℕ) → event ≡ first.now ++ second.now ++ third.now
             → keeps machine (waits self.old) (disk self.old)
             → OnOk result (keeps (M.next machine false event) (waits self.new) (disk self.new)) }
-        ensures noted_ahead { (acked handed machine : M) (event : List ℕ) → event ≡ first.now ++ second.now ++ third.now
-            → ahead acked handed machine (waits self.old) (disk self.old)
-            → OnOk result (ahead acked handed (M.next machine false event) (waits self.new) (disk self.new)) }
         ensures marked { IfOk result (λ before. take before (waits self.new) ≡ waits self.old) }
         ensures refused { OnErr result (waits self.new ≡ waits self.old) }
         ensures same { disk self.new ≡ disk self.old };
@@ -77,84 +70,9 @@ pub trait Store<M: Machine> {
         // It doesn't give up by itself.
         ensures cause { HasCause (told (disk self.old)) (told (disk self.new)) result };
 
-    /// From now on, what is done may be handed in one batch ahead of what is acknowledged. Nothing is written.
-    fn go_ahead(&mut self)
-        ensures same { waits self.new ≡ waits self.old }
-        ensures ahead { (committed machine : M) → settled committed (disk self.old) → keeps machine (waits self.old) (disk self.old)
-            → ahead committed committed machine (waits self.new) (disk self.new) }
-        ensures any_moment { (committed : M) → settled committed (disk self.old)
-            → LeavesOnly (told (disk self.old)) (told (disk self.new)) (λ c. IsState M.loads M.next c committed) }
-        ensures faults { (told (disk self.new)).faults ≡ (told (disk self.old)).faults };
-
-    /// Hands in what was done since the last time, as one batch, and brings to the disk what was handed in then. At `Ok`, what was handed
-    /// in before is acknowledged, and may go out, and this batch isn't yet. Where nothing waits, only what was handed in before is brought
-    /// to the disk; then all is acknowledged. What is known holds of all machines that are ahead by the notes.
-    ///
-    /// # Errors
-    ///
-    /// No memory, or the disk's. Then the file has to be opened again, and nothing may go out.
-    fn stage(&mut self, alloc: Global) -> Result<(), FileError>
-        requires ahead { (acked handed machine : M) × ahead acked handed machine (waits self.old) (disk self.old) }
-        ensures none { OnOk result (waits self.new ≡ []) }
-        ensures staged { (acked handed machine : M) → ahead acked handed machine (waits self.old) (disk self.old)
-            → OnOk result (ahead handed machine machine (waits self.new) (disk self.new)) }
-
-        // A crash at any moment of it leaves what was acknowledged, or what was handed in before, and never this batch.
-        ensures any_moment { (acked handed machine : M) → ahead acked handed machine (waits self.old) (disk self.old)
-            → LeavesOnly (told (disk self.old)) (told (disk self.new)) (IsEither M.loads M.next acked handed) }
-
-        // It doesn't give up by itself.
-        ensures cause { HasCause (told (disk self.old)) (told (disk self.new)) result };
-
-    /// Brings to the disk what was handed in. At `Ok` it is acknowledged, and nothing is ahead but the notes that wait.
-    ///
-    /// # Errors
-    ///
-    /// No memory, or the disk's. Then the file has to be opened again, and nothing may go out.
-    fn settle(&mut self) -> Result<(), FileError>
-        requires ahead { (acked handed machine : M) × ahead acked handed machine (waits self.old) (disk self.old) }
-        ensures same { waits self.new ≡ waits self.old }
-        ensures settled { (acked handed machine : M) → ahead acked handed machine (waits self.old) (disk self.old)
-            → OnOk result (settled handed (disk self.new)) }
-        ensures kept { (acked handed machine : M) → ahead acked handed machine (waits self.old) (disk self.old)
-            → OnOk result (keeps machine (waits self.new) (disk self.new)) }
-        ensures ahead { (acked handed machine : M) → ahead acked handed machine (waits self.old) (disk self.old)
-            → OnOk result (ahead handed handed machine (waits self.new) (disk self.new)) }
-
-        // A crash at any moment of it leaves what was acknowledged, or what was handed in.
-        ensures any_moment { (acked handed machine : M) → ahead acked handed machine (waits self.old) (disk self.old)
-            → LeavesOnly (told (disk self.old)) (told (disk self.new)) (IsEither M.loads M.next acked handed) }
-
-        // It doesn't give up by itself.
-        ensures cause { HasCause (told (disk self.old)) (told (disk self.new)) result };
-
-    /// Makes room for what is handed in later, where there is a disk: so many sectors of zeros on it, after what was handed in. A sync of
-    /// what is written there has no length of a file to commit.
-    ///
-    /// # Errors
-    ///
-    /// No memory, or the disk's, also where it has no such room. Then the file has to be opened again, and nothing may go out.
-    fn make_room(&mut self, alloc: Global, sectors: usize) -> Result<(), FileError>
-        requires ahead { (acked handed machine : M) × ahead acked handed machine (waits self.old) (disk self.old) }
-        ensures same { waits self.new ≡ waits self.old }
-        ensures ahead { (acked handed machine : M) → ahead acked handed machine (waits self.old) (disk self.old)
-            → OnOk result (ahead acked handed machine (waits self.new) (disk self.new)) }
-
-        // A crash at any moment of it leaves what was acknowledged.
-        ensures any_moment { (acked handed machine : M) → ahead acked handed machine (waits self.old) (disk self.old)
-            → LeavesOnly (told (disk self.old)) (told (disk self.new)) (λ c. IsState M.loads M.next c acked) }
-
-        // It doesn't give up by itself.
-        ensures cause { HasCause (told (disk self.old)) (told (disk self.new)) result };
-
     /// Is all committed that was done?
     fn is_committed(&self) -> bool
         ensures none { IsTrue result ↔ waits self.now ≡ [] };
-
-    /// Is what was committed on a disk, so that a crash leaves it?
-    fn is_on_disk(&self) -> bool
-        ensures { IsTrue result → (machine : M) → settled machine (disk self.now)
-            → (gate : ℕ) × IsDurable M.loads M.next machine gate (told (disk self.now)) };
 
     /// What is committed is kept with no note, and what is kept with no note is committed. A crash leaves what was committed. A proof
     /// about every store calls this, which has no code.
@@ -162,7 +80,5 @@ pub trait Store<M: Machine> {
         ensures at_rest { (machine : M) (d : Self.Disk) → settled machine d → keeps machine [] d }
         ensures all_settled { (machine : M) (d : Self.Disk) → keeps machine [] d → settled machine d }
         ensures stands { (machine : M) (d : Self.Disk) (c : List ℕ) → settled machine d → MayLeave (told d) c
-            → IsState M.loads M.next c machine }
-        ensures stands_ahead { (acked handed machine : M) (waiting : List ℕ) (d : Self.Disk) (c : List ℕ)
-            → ahead acked handed machine waiting d → MayLeave (told d) c → IsState M.loads M.next c acked };
+            → IsState M.loads M.next c machine };
 }

@@ -1,8 +1,6 @@
 -- A machine of one number.
 use Rattle.std.specs.Prelude.{◌≡◌, ℕ, ◌+◌, ◌*◌, ◌%◌, List, [], ◌∷◌, ◌++◌, slice_index_or}
 use Rattle.std.proofs.Common.{sym, ◌∙◌, ap}
-use Rattle.stored_file.specs.File.{FileState}
-use Rattle.durable_machine.specs.Files.{IsDurable}
 use Rattle.durable_machine_tests.specs.declared.number.Number.{Number}
 
 -- the base is the number
@@ -25,7 +23,3 @@ one_number a b x y s t is_a is_b is = (is_a ∙ ap (λ (n : ℕ). n ∷ []) same
   where
     same : s.value ≡ t.value
     same = ap (λ (l : List ℕ). slice_index_or l 0 0) (ap (λ (l : List ℕ). l ++ x) (sym is_a) ∙ is ∙ ap (λ (l : List ℕ). l ++ y) is_b)
-
--- the number is what the file stands for, which is at rest, with its gate at this offset, and all of it on the disk
-abbrev pub IsKept : Number → ℕ → FileState → Type 0
-IsKept = IsDurable IsBaseOf (λ number _ event. number_after number event)

@@ -3,7 +3,7 @@
 ghost use Rattle.std.specs.Prelude.{◌≡◌, ◌≤◌, ℕ, List, [], ◌∷◌, length, take, IfOk};
 ghost use Rattle.durable_machine_tests.specs.Number.{IsBaseOf, number_after, one_number};
 
-use durable_machine::{Applied, Machine, Saves};
+use durable_machine::{Applied, Machine};
 use std::alloc::{AllocError, Global};
 
 /// The number to which events of one byte lead: each takes it times 31, plus the byte.
@@ -27,13 +27,9 @@ impl Number {
 }
 
 impl Machine for Number {
-    type Reply = u8;
-
     ghost loads = { IsBaseOf };
 
     ghost next = { λ number _ event. number_after number event };
-
-    ghost replies = { λ number _ event reply. reply ≡ (number_after number event).value };
 
     ghost one_base = { one_number };
 
@@ -44,19 +40,12 @@ impl Machine for Number {
         }
     }
 
-    fn apply(&mut self, _alloc: Global, event: &[u8]) -> Result<Applied<u8>, AllocError> {
+    fn apply(&mut self, _alloc: Global, event: &[u8]) -> Result<Applied, AllocError> {
         let before = *self;
         *self = before.after(event);
         Ok(Applied {
-            reply: self.value,
             changes: event.len() == 1,
             starved: false,
         })
-    }
-}
-
-impl Saves for Number {
-    fn save(&self, alloc: Global) -> Result<Option<Vec<u8>>, AllocError> {
-        Ok(Some(vec![in alloc; self.value]?))
     }
 }

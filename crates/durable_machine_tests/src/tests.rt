@@ -1,12 +1,12 @@
 //! Sessions that are cut off at each moment.
 
-ghost use Rattle.std.specs.Prelude.{◌≡◌, [], IfOk};
-ghost use Rattle.stored_file.specs.Tearing.{told_of};
-ghost use Rattle.durable_machine.specs.Seals.{events_of};
-ghost use Rattle.durable_machine_tests.specs.Number.{IsBaseOf, IsKept};
+ghost use Rattle.std.specs.Prelude.{IfOk};
+ghost use Rattle.durable_machine_tests.specs.Kept.{IsKept};
+ghost use Rattle.durable_machine_tests.specs.Number.{IsBaseOf};
 
 use crate::Number;
-use durable_machine::{Durable, Fault, InFile, InMemory, Saves, Store};
+use crate::keeping::{apply, commit, serve};
+use durable_machine::{Durable, Fault, InMemory, Store, put_base};
 use std::alloc::{AllocError, Global};
 use std::test::Fail;
 use stored_file::{FileError, SECTOR, StoredFile, TearingFile};
@@ -34,29 +34,25 @@ fn after(number: Number, events: &[Vec<u8>]) -> Number {
 }
 
 /// The store that a file of these bytes, all of them on the disk, opens as.
-fn opened(alloc: Global, bytes: &[u8]) -> Result<Durable<Number, InFile<TearingFile>>, Fault>
-    ensures { IfOk result (λ store. IsKept store.machine store.events.journal.gate (told_of store.events.journal.file)) }
+fn opened(alloc: Global, bytes: &[u8]) -> Result<Durable<Number, TearingFile>, Fault>
+    ensures { IfOk result IsKept }
 {
-    match Durable::open(alloc, TearingFile::new(alloc, bytes)?) {
+    match Durable::open_read(alloc, TearingFile::new(alloc, bytes)?, bytes) {
         Ok(store) => Ok(store),
         Err((fault, _file)) => Err(fault),
     }
 }
 
 /// The base of a number.
-fn base_of(alloc: Global, number: Number) -> Result<Vec<u8>, FileError>
+fn base_of(alloc: Global, number: Number) -> Result<Vec<u8>, AllocError>
     ensures { IfOk result (λ base. IsBaseOf base.items number) }
 {
-    match number.save(alloc)? {
-        Some(base) => Ok(base),
-        None => Err(FileError::Failed),
-    }
+    Ok(vec![in alloc; number.value]?)
 }
 
 /// A new store of the number 0, in the place of a file of no bytes.
-fn created(alloc: Global) -> Result<Durable<Number, InFile<TearingFile>>, FileError>
-    ensures kept { IfOk result (λ store. IsKept store.machine store.events.journal.gate (told_of store.events.journal.file)) }
-    ensures none { IfOk result (λ store. events_of store.events.waiting ≡ []) }
+fn created(alloc: Global) -> Result<Durable<Number, TearingFile>, FileError>
+    ensures { IfOk result IsKept }
 {
     let number = Number { value: 0 };
     let base = base_of(alloc, number)?;
@@ -118,8 +114,7 @@ fn each_batch_is_cut_off_at_each_moment(rt: HostRuntime) -> Result<(), Fail> {
         let events = batch(alloc, index)?;
         let from = store.events.journal.file.moment();
         let before = store.machine;
-        let replies = store.serve(alloc, &events)?;
-        assert_eq!(rt; replies.len(), events.len());
+        serve(alloc, &mut store, &events)?;
         assert!(rt; store.machine == after(before, &events));
         assert!(rt;
             each_comes_back(
@@ -135,72 +130,36 @@ fn each_batch_is_cut_off_at_each_moment(rt: HostRuntime) -> Result<(), Fail> {
 }
 
 #[test]
-fn rounds_are_cut_off_at_each_moment(rt: HostRuntime) -> Result<(), Fail> {
-    let alloc = rt.alloc();
-    let mut store = created(alloc)?;
-    let from = store.events.journal.file.moment();
-    let mut number = store.machine;
-    let mut numbers = vec![in alloc; number; 1]?;
-    let mut batches = Vec::new(alloc);
-    for index in [1, 2, 3, 5] {
-        let events = batch(alloc, index)?;
-        number = after(number, &events);
-        numbers.push(number)?;
-        batches.push(events)?;
-    }
-    store.serve_all(alloc, &batches)?;
-    assert!(rt; store.machine == number);
-    let file = &store.events.journal.file;
-    // A round is two writes and a sync; the first round and the last have one write.
-    assert_eq!(rt; file.moment().saturating_sub(from), 13);
-    for moment in from..=file.moment() {
-        for seed in 0..SEEDS {
-            let left = file.crashed(alloc, moment, seed)?;
-            let found = opened(alloc, &left)?.machine;
-            assert!(rt; numbers.contains(&found));
-            assert!(rt; moment < file.moment() || found == number);
-        }
-    }
-    Ok(())
-}
-
-#[test]
 fn what_was_done_waits_for_the_commit(rt: HostRuntime) -> Result<(), Fail> {
     let alloc = rt.alloc();
     let mut store = created(alloc)?;
     let from = store.events.journal.file.moment();
     let before = store.machine;
-    store.apply(alloc, &[5])?;
-    store.apply(alloc, &[1, 2])?;
-    store.apply(alloc, &[9])?;
+    apply(alloc, &mut store, &[5])?;
+    apply(alloc, &mut store, &[1, 2])?;
+    apply(alloc, &mut store, &[9])?;
     let after = store.machine;
     assert!(rt; after == before.after(&[5]).after(&[9]));
-    assert!(rt; !store.is_committed());
+    assert!(rt; !Store::<Number>::is_committed(&store.events));
     assert_eq!(rt; store.events.journal.file.moment(), from);
     assert!(rt; each_comes_back(alloc, &store.events.journal.file, from, (before, before))?);
-    store.commit(alloc)?;
-    assert!(rt; store.is_committed());
+    commit(alloc, &mut store)?;
+    assert!(rt; Store::<Number>::is_committed(&store.events));
     assert!(rt; store.machine == after);
     assert!(rt; each_comes_back(alloc, &store.events.journal.file, from, (before, after))?);
     let committed = store.events.journal.file.moment();
-    store.apply(alloc, &[1, 2])?;
-    store.commit(alloc)?;
+    apply(alloc, &mut store, &[1, 2])?;
+    commit(alloc, &mut store)?;
     assert_eq!(rt; store.events.journal.file.moment(), committed);
     Ok(())
 }
 
 #[test]
-fn what_is_in_memory_is_on_no_disk(rt: HostRuntime) -> Result<(), Fail> {
-    let alloc = rt.alloc();
-    let mut store = Durable {
-        machine: Number { value: 0 },
-        events: InMemory,
-    };
-    let reply = store.apply(alloc, &[5])?;
-    assert_eq!(rt; reply, 5);
-    assert!(rt; store.is_committed());
-    store.commit(alloc)?;
-    assert!(rt; !Store::<Number>::is_on_disk(&store.events));
+fn what_is_in_memory_waits_for_nothing(rt: HostRuntime) -> Result<(), Fail> {
+    let mut events = InMemory;
+    Store::<Number>::note(&mut events, &[5], &[], &[])?;
+    assert!(rt; Store::<Number>::is_committed(&events));
+    Store::<Number>::commit(&mut events, rt.alloc())?;
     Ok(())
 }
 
@@ -208,15 +167,11 @@ fn what_is_in_memory_is_on_no_disk(rt: HostRuntime) -> Result<(), Fail> {
 fn a_fold_is_cut_off_at_each_moment(rt: HostRuntime) -> Result<(), Fail> {
     let alloc = rt.alloc();
     let mut store = created(alloc)?;
-    let mut batches = Vec::new(alloc);
-    for index in 0..4 {
-        batches.push(batch(alloc, index)?)?;
-    }
-    let replies = store.serve_all(alloc, &batches)?;
-    assert_eq!(rt; replies.len(), batches.len());
+    serve(alloc, &mut store, &batch(alloc, 3)?)?;
     let from = store.events.journal.file.moment();
     let number = store.machine;
-    store.fold(base_of(alloc, number)?)?;
+    let base = base_of(alloc, number)?;
+    put_base::<Number, TearingFile>(base, &mut store.events.journal.file)?;
     assert_eq!(rt; store.events.journal.file.bytes().len(), 2 * SECTOR);
     assert!(rt; each_comes_back(alloc, &store.events.journal.file, from, (number, number))?);
     Ok(())

@@ -2,5 +2,4 @@ pub mod Changes
 pub mod Moments
 pub mod Opened
 pub mod Renewing
-pub mod Rounds
 mod Unsynced

@@ -2,6 +2,5 @@ pub mod Calls
 pub mod Cause
 pub mod File
 pub mod Reading
-pub mod Rounds
 pub mod Tearing
 pub mod Unsynced

@@ -8,7 +8,7 @@ ghost use Rattle.durable_machine.specs.Seals.{events_of};
 ghost use Rattle.image_store.specs.Namespace.{shape};
 ghost use Rattle.device_meaning.specs.State.{State};
 ghost use Rattle.nvme_entry.specs.Entry.{decoded};
-ghost use Rattle.durable_device.specs.Changing.{asks_change, is_idle};
+ghost use Rattle.durable_device.specs.Changing.{asks_change};
 ghost use Rattle.durable_device.specs.Kept.{IsCommittedBut, IsEither, IsKept, StandsFor};
 ghost use Rattle.tcp_queues.specs.Commands.{given_to_device};
 ghost use Rattle.tcp_target.specs.Ready.{is_ready};
@@ -21,12 +21,11 @@ ghost use Rattle.tcp_device.specs.Resuming.{Resumes};
 use crate::served::ServedTarget;
 use durable_device::laws::changes_come_again;
 use durable_device::{
-    DurableDevice, Folding, Folds, FrameDevice, MOST_JOURNAL, asks_change, is_refusal,
+    DurableDevice, Folding, Folds, FrameDevice, MOST_JOURNAL, asks_change, is_idle, is_refusal,
     note_submission, note_turn,
 };
 use durable_machine::{Batch, Durable, InFile, Store};
 use nvme_entry::{Entry, MOST_TRANSFER};
-use runner::Reply;
 use std::alloc::{AllocError, Global};
 use stored_file::{FileError, StoredFile};
 use tcp_admin::{NamespaceFormat, Subsystem};
@@ -324,16 +323,5 @@ impl<S: Folds + Drop> Keeper<S> {
         let folding = self.events.fold(alloc, served.device())?;
         self.folded = self.events.length();
         Ok(folding)
-    }
-}
-
-/// Whether a reply says that there is no run.
-fn is_idle(reply: &Reply) -> bool
-    ensures { result ≡ is_idle reply.now }
-{
-    match reply {
-        Reply::Idle => true,
-        Reply::Complete { .. } | Reply::Pending { .. } | Reply::FaultTaken | Reply::FaultRefused =>
-            false,
     }
 }

@@ -3,15 +3,15 @@
 ghost use Rattle.std.specs.Prelude.{◌≡◌, ◌≤◌, ◌<◌, ◌+◌, ◌*◌, ◌-◌, ◌^◌, if◌then◌else◌, true, length, IfOk, OnErr};
 ghost use Rattle.nvme_entry.specs.declared.command.TheConstants.{MOST_TRANSFER};
 ghost use Rattle.device_events.specs.declared.event.Event.TheVariants.{Turn};
-ghost use Rattle.device_serve.specs.FrameStream.{Began, GivesTurns, HasNone, WentRound, is_idle};
+ghost use Rattle.device_serve.specs.FrameStream.{Began, GivesTurns, HasNone, WentRound};
 ghost use Rattle.device_serve.specs.steps.FrameParts.{GaveTurn, HasGrown};
 
 use crate::frames::spelling::add_frame;
 use crate::kept::KeptDevice;
-use durable_device::FrameDevice;
+use durable_device::{FrameDevice, is_idle};
 use durable_machine::Store;
 use nvme_entry::MOST_TRANSFER;
-use runner::{Event, Reply};
+use runner::Event;
 use std::alloc::AllocError;
 use zone_resources::RUNS;
 
@@ -93,22 +93,11 @@ fn give_turn<S: Store<FrameDevice> + Drop>(
     ensures unanswered { OnErr result (answer.new.items ≡ answer.old.items) }
 {
     let reply = kept.apply(&Event::Turn { run }, output)?;
-    if is_idle(reply) {
+    if is_idle(&reply) {
         return Ok(false);
     }
     add_frame(answer, reply, &output[..reply.data_length()])?;
     Ok(true)
-}
-
-/// Is it the reply to the turn of a number that no run has?
-fn is_idle(reply: Reply) -> bool
-    ensures { result ≡ is_idle reply }
-{
-    match reply {
-        Reply::Idle => true,
-        Reply::Complete { .. } | Reply::Pending { .. } => false,
-        Reply::FaultTaken | Reply::FaultRefused => false,
-    }
 }
 
 /// How many turns were given with this one, and how many numbers that no run has come after the last of them.

@@ -2,9 +2,7 @@ use Rattle.std.proofs.Common.{false, ◌≡◌, ◌<◌, ◌^◌, ◌++◌, [], 
 use Rattle.durable_machine.specs.Events.{spelled}
 use Rattle.durable_machine.specs.Seals.{events_of}
 use Rattle.durable_machine.specs.Waiting.{IsCommittedBut}
-use Rattle.durable_machine.specs.Ahead.{IsAheadBut}
 use Rattle.durable_machine.proofs.Waiting.{one_more, taken_back}
-use Rattle.durable_machine.proofs.Ahead.{one_more_ahead}
 use Rattle.durable_machine.proofs.in_file.InFileStore.note.Goals as goal
 
 pub returns-clause-noted : goal.returns-clause-noted
@@ -18,18 +16,6 @@ returns-clause-noted g c machine event is kept =
     let sized : length event < 2 ^ 64 = subst (λ (e : List ℕ). length e < 2 ^ 64) (sym is) c.in_ok-add.ensures.sized in
     subst (λ (w : List ℕ). IsCommittedBut g.M.Machine.loads next w (next machine false event) gate file) (sym added)
     (one_more g.M.Machine.loads next waiting event machine (next machine false event) gate file kept sized refl)
-
-pub returns-clause-noted_ahead : goal.returns-clause-noted_ahead
-returns-clause-noted_ahead g c acked handed machine event is ahead =
-    let next = g.M.Machine.next in
-    let journal = c.args.self.now.journal in
-    let file = g.F.StoredFile.told journal.file in
-    let waiting = events_of c.args.self.now.waiting in
-    let added : events_of c.add.new.self ≡ waiting ++ spelled (event ∷ []) =
-    c.in_ok-add.ensures.added ∙ ap (λ (e : List ℕ). waiting ++ spelled (e ∷ [])) (sym is) in
-    let sized : length event < 2 ^ 64 = subst (λ (e : List ℕ). length e < 2 ^ 64) (sym is) c.in_ok-add.ensures.sized in
-    subst (λ (w : List ℕ). IsAheadBut g.M.Machine.loads next w acked handed (next machine false event) journal.gate journal.next file) (sym added)
-    (one_more_ahead g.M.Machine.loads next waiting event acked handed machine (next machine false event) journal.gate journal.next file ahead sized refl)
 
 pub returns-clause-marked : goal.returns-clause-marked
 returns-clause-marked g c =

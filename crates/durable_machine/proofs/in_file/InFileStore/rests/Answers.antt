@@ -1,7 +1,6 @@
 use Rattle.std.proofs.Common.{[], refl}
 use Rattle.durable_machine.proofs.Waiting.{all_committed, is_durable}
 use Rattle.durable_machine.proofs.Files.{rests_before}
-use Rattle.durable_machine.proofs.Ahead.{left_ahead}
 use Rattle.durable_machine.proofs.in_file.InFileStore.rests.Goals as goal
 
 pub returns-clause-at_rest : goal.returns-clause-at_rest
@@ -13,7 +12,3 @@ returns-clause-all_settled g c machine journal kept = is_durable g.M.Machine.loa
 pub returns-clause-stands : goal.returns-clause-stands
 returns-clause-stands g c machine journal file settled left =
     rests_before g.M.Machine.loads g.M.Machine.next machine journal.gate (g.F.StoredFile.told journal.file) settled file left
-
-pub returns-clause-stands_ahead : goal.returns-clause-stands_ahead
-returns-clause-stands_ahead g c acked handed machine waiting journal file but left =
-    left_ahead g.M.Machine.loads g.M.Machine.next acked handed journal.gate journal.next (g.F.StoredFile.told journal.file) but.ahead file left
