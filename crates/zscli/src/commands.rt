@@ -354,45 +354,50 @@ static LINE: Words = Words {
 
 /// How a command line is written.
 fn command_line<'a>(alloc: Global) -> Result<Command<'a>, AllocError> {
-    let mut line = command_over(alloc, &LINE, &[])?.version(VERSION);
-    for (words, below) in &commands() {
-        line = line.subcommand(parser(alloc, words, below)?)?;
-    }
-    Ok(line)
+    let parsers = parsers(alloc)?;
+    command_over(alloc, &LINE, &[])?
+        .version(VERSION)
+        .subcommands(parsers)
 }
 
-/// Each command, and the commands below it.
-fn commands() -> [(&'static Words, &'static [Words]); 17] {
+/// The parsers of all commands.
+fn parsers<'a>(alloc: Global) -> Result<Vec<Command<'a>>, AllocError> {
+    let commands = commands();
+    let mut parsers = Vec::with_capacity(alloc, commands.len())?;
+    for words in &commands {
+        parsers.push_reserved(parser(alloc, words)?);
+    }
+    Ok(parsers)
+}
+
+/// The words of each command.
+fn commands() -> [&'static Words; 17] {
     [
-        (&format::WORDS, &[]),
-        (&zones::WORDS, &[]),
-        (&report::WORDS, &[]),
-        (&upgrade::WORDS, &[]),
-        (&exec::WORDS, &[]),
-        (&serve::WORDS, &[]),
-        (&fold::WORDS, &[]),
-        (&asm::WORDS, &[]),
-        (&disasm::WORDS, &[]),
-        (&link::WORDS, &[]),
-        (&trace::WORDS, &[]),
-        (&verify::WORDS, &[]),
-        (&unpack::WORDS, &[]),
-        (&entry::WORDS, &entry::KINDS),
-        (&entries::WORDS, &[]),
-        (&explain::WORDS, &[]),
-        (&demo::WORDS, &[]),
+        &format::WORDS,
+        &zones::WORDS,
+        &report::WORDS,
+        &upgrade::WORDS,
+        &exec::WORDS,
+        &serve::WORDS,
+        &fold::WORDS,
+        &asm::WORDS,
+        &disasm::WORDS,
+        &link::WORDS,
+        &trace::WORDS,
+        &verify::WORDS,
+        &unpack::WORDS,
+        &entry::WORDS,
+        &entries::WORDS,
+        &explain::WORDS,
+        &demo::WORDS,
     ]
 }
 
-/// The parser of a command, with the commands below it.
-fn parser<'a>(
-    alloc: Global,
-    words: &'static Words,
-    below: &'static [Words],
-) -> Result<Command<'a>, AllocError> {
-    if below.is_empty() {
-        command_words::command(alloc, words)
+/// The parser of a command. There are commands below `entry` alone.
+fn parser<'a>(alloc: Global, words: &'static Words) -> Result<Command<'a>, AllocError> {
+    if words.name == entry::NAME {
+        command_over(alloc, words, &entry::KINDS)
     } else {
-        command_over(alloc, words, below)
+        command_words::command(alloc, words)
     }
 }
