@@ -210,12 +210,12 @@ def command_of(told: Value, below: Optional[List[Value]] = None) -> Command:
 
 
 def command_line() -> Command:
-    """The whole line: of each command that `command_line` lists, its table and the one of those below it."""
+    """The whole line: of each command that `commands` lists, its table and the one of those below it."""
     key = ("zscli", "commands")
     source = (ROOT / "crates" / "zscli" / "src" / "commands.rt").read_text()
     line = command_of(constant(key, "LINE"))
     line.version = text(constant(key, "VERSION"))
-    start = source.index("fn command_line")
+    start = source.index("fn commands")
     for name in re.findall(r"&(\w+)::WORDS", source[start : source.index("\n}\n", start)]):
         below = listed(constant(key, f"{name}::KINDS")) if written(key, f"{name}::KINDS") else None
         line.below.append(command_of(constant(key, f"{name}::WORDS"), below))

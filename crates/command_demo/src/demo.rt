@@ -59,15 +59,28 @@ pub fn demo<'a, O: Write>(
         Ok(geometry) => geometry,
         Err(refusal) => return Err(Failure::GeometryRefused(refusal)),
     };
+    let text = shown(alloc, geometry, matches.get_flag(HEX))?;
+    printed(out.write_all(text.as_bytes()))
+}
+
+/// The demonstration on a device with this geometry.
+fn shown(alloc: Global, geometry: Geometry, hex: bool) -> Result<String, AllocError> {
     let image = Image::empty(alloc, geometry)?;
     let mut device = Device::<Intervals>::new(alloc, image);
+    let text = text_of(alloc, &mut device, hex);
+    drop(device);
+    text
+}
+
+/// All events of the demonstration, done on a device, and what they leave.
+fn text_of(alloc: Global, device: &mut Device<Intervals>, hex: bool) -> Result<String, AllocError> {
     let mut text = String::new(alloc);
     for event in &events(alloc)? {
-        push_answered(alloc, &mut device, event, matches.get_flag(HEX), &mut text)?;
+        push_answered(alloc, device, event, hex, &mut text)?;
     }
     text.push_str("\n")?;
     push_zones(alloc, device.image(), &mut text)?;
-    printed(out.write_all(text.as_bytes()))
+    Ok(text)
 }
 
 /// Does an event, and adds what is asked and what is answered.

@@ -27,19 +27,30 @@ const ORDERS: u32 = 4;
 ///
 /// Want of memory.
 pub(crate) fn events(alloc: Global) -> Result<Vec<Event>, AllocError> {
-    let none = || Vec::new(alloc);
     let mut all = Vec::new(alloc);
-    all.push(submitted(1, 1, appended(), blocks(alloc)?))?;
-    all.push(submitted(1, 2, sent(DESTINATION, Action::Open), none()))?;
-    all.push(submitted(1, 3, loaded(), FILTER.to_vec(alloc)?))?;
-    all.push(submitted(1, 4, started(), none()))?;
-    all.push(Event::Turn { run: 0 })?;
-    all.push(Event::Turn { run: 0 })?;
-    all.push(submitted(2, 1, sent(SOURCE, Action::Reset), none()))?;
-    all.push(Event::Turn { run: 0 })?;
-    all.push(Event::Turn { run: 0 })?;
-    all.push(submitted(1, 5, read_back(), none()))?;
+    push_start(alloc, &mut all)?;
+    push_turns(alloc, &mut all)?;
     Ok(all)
+}
+
+/// Adds what happens up to the start of the run.
+fn push_start(alloc: Global, all: &mut Vec<Event>) -> Result<(), AllocError> {
+    all.push(submitted(1, 1, appended(), blocks(alloc)?))?;
+    all.push(submitted(1, 2, sent(DESTINATION, Action::Open), Vec::new(alloc)))?;
+    all.push(submitted(1, 3, loaded(), FILTER.to_vec(alloc)?))?;
+    all.push(submitted(1, 4, started(), Vec::new(alloc)))?;
+    Ok(())
+}
+
+/// Adds the turns of the run, with a command between them, and what happens after it.
+fn push_turns(alloc: Global, all: &mut Vec<Event>) -> Result<(), AllocError> {
+    all.push(Event::Turn { run: 0 })?;
+    all.push(Event::Turn { run: 0 })?;
+    all.push(submitted(2, 1, sent(SOURCE, Action::Reset), Vec::new(alloc)))?;
+    all.push(Event::Turn { run: 0 })?;
+    all.push(Event::Turn { run: 0 })?;
+    all.push(submitted(1, 5, read_back(), Vec::new(alloc)))?;
+    Ok(())
 }
 
 /// The event of a command's entry.

@@ -126,10 +126,10 @@ fn text_of_file<'a, F: Files>(
 }
 
 /// The command file that lines of words ask for.
-fn text_of_lines<'a, F: Files>(
+fn text_of_lines<'a, 'w, F: Files>(
     alloc: Global,
     path: &'a str,
-    lines: &[WordedLine<'_>],
+    lines: &'w [WordedLine<'_>],
     block: BlockSize,
     geometry: Option<Geometry>,
     files: &mut F,
@@ -139,13 +139,42 @@ fn text_of_lines<'a, F: Files>(
 {
     let mut command_line = command_over(alloc, &entry::WORDS, &entry::KINDS)?;
     let mut text = CommandText::new(alloc, geometry);
+    let added = add_lines(
+        alloc,
+        &mut command_line,
+        path,
+        lines,
+        block,
+        files,
+        &mut text,
+    );
+    drop(command_line);
+    match added {
+        Ok(()) => Ok(text.into_bytes()),
+        Err(failure) => Err(failure),
+    }
+}
+
+/// Adds what lines of words ask for.
+fn add_lines<'a, 'w, F: Files>(
+    alloc: Global,
+    command_line: &mut Command<'w>,
+    path: &'a str,
+    lines: &'w [WordedLine<'_>],
+    block: BlockSize,
+    files: &mut F,
+    text: &mut CommandText,
+) -> Result<(), Failure<'a>>
+    ensures made { F.made files.new ≡ F.made files.old }
+    ensures contents { F.contents files.new ≡ F.contents files.old }
+{
     for line in lines {
-        match add_line(alloc, &mut command_line, line, block, files, &mut text) {
+        match add_line(alloc, command_line, line, block, files, text) {
             Ok(()) => {}
             Err(failure) => return Err(wrong_line(alloc, path, line.number, failure)),
         }
     }
-    Ok(text.into_bytes())
+    Ok(())
 }
 
 /// Adds what a line of words asks for.
@@ -175,6 +204,17 @@ fn words_of<'w>(
     block: BlockSize,
 ) -> Result<EntryWords<'w>, Failure<'w>> {
     let matches = command_line.try_get_matches_from_mut(line.words.as_slice())?;
+    let words = words_in(command_line, &matches, block);
+    drop(matches);
+    words
+}
+
+/// What the words say that were read so.
+fn words_in<'w>(
+    command_line: &mut Command<'w>,
+    matches: &ArgMatches<'w>,
+    block: BlockSize,
+) -> Result<EntryWords<'w>, Failure<'w>> {
     let Some((name, matches)) = matches.subcommand() else {
         return Err(no_command(command_line));
     };

@@ -147,23 +147,22 @@ impl Numbers {
         }
     }
 
-    /// Those with this number too; `None` where it can't be so large.
-    fn with(self, number: Number, value: u64) -> Option<Numbers> {
+    /// Takes this number too; `None` where it can't be so large.
+    fn take(&mut self, number: Number, value: u64) -> Option<()> {
         let small = u32::try_from(value).ok();
-        let mut numbers = self;
         match number {
-            Number::Queue => numbers.identifiers.queue = u16::try_from(value).ok()?,
-            Number::Cid => numbers.identifiers.cid = Some(u16::try_from(value).ok()?),
-            Number::Lba => numbers.lba = value,
-            Number::Blocks => numbers.blocks = Some(BlockCount::new(small?)?),
-            Number::Block => numbers.block = small?,
-            Number::Dwords => numbers.dwords = Some(DwordCount::new(small?)?),
-            Number::Slot => numbers.slot = Some(ProgramSlot::new(small?)?),
-            Number::Limit => numbers.limit = small?,
-            Number::Argument => numbers.argument = small?,
-            Number::Destination => numbers.destination = value,
+            Number::Queue => self.identifiers.queue = u16::try_from(value).ok()?,
+            Number::Cid => self.identifiers.cid = Some(u16::try_from(value).ok()?),
+            Number::Lba => self.lba = value,
+            Number::Blocks => self.blocks = Some(BlockCount::new(small?)?),
+            Number::Block => self.block = small?,
+            Number::Dwords => self.dwords = Some(DwordCount::new(small?)?),
+            Number::Slot => self.slot = Some(ProgramSlot::new(small?)?),
+            Number::Limit => self.limit = small?,
+            Number::Argument => self.argument = small?,
+            Number::Destination => self.destination = value,
         }
-        Some(numbers)
+        Some(())
     }
 
     /// Those that the words give.
@@ -174,10 +173,9 @@ impl Numbers {
                 continue;
             }
             let value = number_or_hexadecimal_in_range(matches, row.option, row.least, row.most)?;
-            numbers = match numbers.with(row.number, value) {
-                Some(numbers) => numbers,
-                None => return Err(not_in_range(matches, row.option, row.least, row.most)),
-            };
+            if numbers.take(row.number, value).is_none() {
+                return Err(not_in_range(matches, row.option, row.least, row.most));
+            }
         }
         Ok(numbers)
     }

@@ -168,7 +168,24 @@ pub fn link<'a, F: Files, O: Write>(
     let object = read(path, MOST_OF_TEXT, files)?;
     let name = required(matches, FUNCTION);
     let made = program(alloc, path, object.as_slice(), name, &asked, out)?;
-    let lines = lines(alloc, &made, required(matches, VERBOSE) == "true")?;
+    let done = put(alloc, matches, &made, files, out);
+    drop(made);
+    done
+}
+
+/// Prints what is told of a program, and makes its file and the one beside it.
+fn put<'a, F: Files, O: Write>(
+    alloc: Global,
+    matches: &ArgMatches<'a>,
+    made: &LinkedProgram,
+    files: &mut F,
+    out: &mut O,
+) -> Result<(), Failure<'a>>
+    ensures made { OnOk result (MakesProgram (value_of matches.now PROGRAM.now) (F.made files.old) (F.made files.new)) }
+    ensures kept { OnErr result (F.made files.new ≡ F.made files.old) }
+    ensures contents { OnErr result (F.contents files.new ≡ F.contents files.old) }
+{
+    let lines = lines(alloc, made, required(matches, VERBOSE) == "true")?;
     printed(out.write_all(lines.as_bytes()))?;
     let path = required(matches, PROGRAM);
     let beside = notes_name(alloc, path)?;

@@ -156,13 +156,6 @@ fn tried(alloc: Global, given: &Given<'_, '_, '_>, free: &[bool]) -> Result<Atte
     })
 }
 
-/// So many answers.
-fn answers(alloc: Global, answer: bool, count: usize) -> Result<Vec<bool>, AllocError> {
-    let mut list = Vec::new(alloc);
-    list.resize(count, answer)?;
-    Ok(list)
-}
-
 /// So many guards of positions are put back at most.
 const MOST_BACK: usize = 24;
 
@@ -185,7 +178,7 @@ fn put_back(attempt: &Attempt, free: &mut [bool]) -> bool {
 
 /// A program that profile 3 accepts, with guards of positions only where it accepts none without; nothing, where none is found.
 fn freed(alloc: Global, given: &Given<'_, '_, '_>) -> Result<Option<Attempt>, Refusal> {
-    let mut free = answers(alloc, true, given.slots.len())?;
+    let mut free = vec![in alloc; true; given.slots.len()]?;
     for _ in 0..MOST_BACK {
         match tried(alloc, given, &free) {
             Ok(found) => {
@@ -286,15 +279,41 @@ fn program(
         Err(fault) => return Err(Refusal::of(of_gathering(alloc, &source, fault))),
     };
     let origins = origins(alloc, &gathered)?;
-    let Attempt {
-        linked,
-        bytes,
-        verdict,
-    } = laid_out(alloc, &source, &gathered, &origins, asked)?;
-    check_strict(alloc, &source, &linked, &origins, asked)?;
-    check_verdict(alloc, &source, &linked, &origins, verdict)?;
-    let told = guard_lines(alloc, &source, &linked, &origins)?;
-    let notes = notes_of(alloc, &source, &linked, bytes.as_slice(), &origins, asked)?;
+    let attempt = laid_out(alloc, &source, &gathered, &origins, asked)?;
+    check(alloc, &source, &attempt, &origins, asked)?;
+    told_of(alloc, &source, attempt, &origins, asked)
+}
+
+/// Refuses a program that isn't what is asked for.
+fn check(
+    alloc: Global,
+    source: &Source<'_, '_>,
+    attempt: &Attempt,
+    origins: &[Option<Origin>],
+    asked: &Asked,
+) -> Result<(), Refusal> {
+    check_strict(alloc, source, &attempt.linked, origins, asked)?;
+    check_verdict(alloc, source, &attempt.linked, origins, attempt.verdict)
+}
+
+/// A program, with what is told and noted of it.
+fn told_of(
+    alloc: Global,
+    source: &Source<'_, '_>,
+    attempt: Attempt,
+    origins: &[Option<Origin>],
+    asked: &Asked,
+) -> Result<LinkedProgram, Refusal> {
+    let told = guard_lines(alloc, source, &attempt.linked, origins)?;
+    let notes = notes_of(
+        alloc,
+        source,
+        &attempt.linked,
+        &attempt.bytes,
+        origins,
+        asked,
+    )?;
+    let Attempt { linked, bytes, .. } = attempt;
     Ok(LinkedProgram {
         linked,
         bytes,

@@ -345,8 +345,10 @@ pub(crate) fn of_linking(
 ) -> Result<String, AllocError> {
     match fault {
         LinkFault::Memory(error) => Err(error),
-        LinkFault::Leaves(_) => {
-            format!(in alloc; "{fault}; compile the file by `clang -target bpf -O2 -c`")
+        LinkFault::Leaves(slot) => {
+            format!(in alloc;
+                "an instruction leads to slot {slot}, where none begins; compile the file by `clang -target bpf -O2 -c`"
+            )
         }
         LinkFault::Loop { back, rounds, .. } => {
             let place = source.place_of(origin_of_slot(origins, back));

@@ -65,10 +65,9 @@ pub fn command<'a>(alloc: Global, words: &'static Words) -> Result<Command<'a>, 
     if words.one_of.is_empty() {
         return Ok(command);
     }
-    let mut group = ArgGroup::new(alloc, "one").required(true);
-    for id in words.one_of {
-        group = group.arg(id)?;
-    }
+    let group = ArgGroup::new(alloc, "one")
+        .required(true)
+        .args(words.one_of)?;
     command.group(group)
 }
 

@@ -7,7 +7,7 @@ use crate::fault::{LinkFault, Widest};
 use crate::guards::{Guard, GuardPlace};
 use crate::labels::{guard_of, label_count};
 use crate::layout::{LaidGuard, Layout};
-use crate::lists::{number_at, set_number, zeros};
+use crate::lists::{number_at, set_number};
 use crate::liveness::{ALL, Registers, at, before, bit, reads, writes};
 use crate::marks::mark_word;
 use crate::pieces::{Piece, compute};
@@ -33,7 +33,7 @@ pub struct Linked {
 }
 
 /// A guard of a program.
-#[derive(Clone, Copy, Debug, PartialEq, Eq)]
+#[derive(Clone, Copy)]
 pub struct LinkedGuard {
     /// The first slot of the program at which it compares.
     pub slot: usize,
@@ -42,7 +42,7 @@ pub struct LinkedGuard {
 }
 
 /// A loop that is laid out no further than so many rounds.
-#[derive(Clone, Copy, Debug, PartialEq, Eq)]
+#[derive(Clone, Copy)]
 pub struct Cut {
     /// The slot of the jump back, of those that were given.
     pub back: usize,
@@ -62,15 +62,6 @@ fn only_writes(instruction: &Instruction) -> bool {
         | Instruction::SwapBytes { .. } => true,
         _ => false,
     }
-}
-
-/// So many empty sets.
-fn empty_sets(alloc: Global, count: usize) -> Result<Vec<Registers>, AllocError> {
-    let mut list = Vec::new(alloc);
-    for _ in 0..count {
-        list.push(0)?;
-    }
-    Ok(list)
 }
 
 /// The registers that are read from a piece on, and whether it stays, by what is read behind it.
@@ -110,8 +101,8 @@ fn slots_taken(piece: &Piece) -> usize {
 
 /// How many slots each piece takes: none, where it is left out.
 fn sizes(alloc: Global, pieces: &[Piece], slots: usize) -> Result<Vec<usize>, AllocError> {
-    let mut live = empty_sets(alloc, slots)?;
-    let mut sizes = zeros(alloc, pieces.len())?;
+    let mut live = vec![in alloc; 0; slots]?;
+    let mut sizes = vec![in alloc; 0; pieces.len()]?;
     let mut behind = 0;
     for back in 0..pieces.len() {
         let place = pieces.len() - 1 - back;
@@ -161,11 +152,8 @@ fn distances(
     slots: usize,
     count: usize,
 ) -> Result<Vec<i16>, AllocError> {
-    let mut begins = zeros(alloc, slots)?;
-    let mut all = Vec::new(alloc);
-    for _ in 0..pieces.len() {
-        all.push(0)?;
-    }
+    let mut begins = vec![in alloc; 0; slots]?;
+    let mut all = vec![in alloc; 0; pieces.len()]?;
     let mut behind = count;
     for back in 0..pieces.len() {
         let place = pieces.len() - 1 - back;
@@ -281,7 +269,7 @@ fn loop_sizes(
     layout: &Layout<'_>,
     sizes: &[usize],
 ) -> Result<Vec<usize>, AllocError> {
-    let mut counts = zeros(alloc, layout.slots.len())?;
+    let mut counts = vec![in alloc; 0; layout.slots.len()]?;
     let mut slot = 0;
     for (place, piece) in layout.pieces.iter().enumerate() {
         slot = begun(piece, slot, layout.slots.len());
@@ -343,31 +331,46 @@ fn count_compare(all: &mut Guards, guard: Guard, place: usize, slot: usize) {
     }
 }
 
-/// The guards of a program, and where each compares first.
-fn guards_of(alloc: Global, layout: &Layout<'_>, sizes: &[usize]) -> Result<Guards, AllocError> {
-    let mut all = Guards {
-        guards: Vec::new(alloc),
-        compares: [0; Guard::COUNT],
-    };
-    for laid in layout.guards.iter() {
-        let slot = number_at(layout.origins, laid.place.slot);
+/// The guards, of which none compares at a slot of the program yet.
+fn unplaced(
+    alloc: Global,
+    laid: &[LaidGuard],
+    origins: &[usize],
+) -> Result<Vec<LinkedGuard>, AllocError> {
+    let mut guards = Vec::new(alloc);
+    for laid in laid {
+        let slot = number_at(origins, laid.place.slot);
         let need = laid.place.need;
-        all.guards.extend_from_slice(&[LinkedGuard {
+        guards.extend_from_slice(&[LinkedGuard {
             slot: MOST_SLOTS,
             place: GuardPlace { slot, need },
         }])?;
     }
+    Ok(guards)
+}
+
+/// Counts the compares of guards, and says where each compares first.
+fn count_compares(all: &mut Guards, layout: &Layout<'_>, sizes: &[usize]) {
     let mut slot: usize = 0;
     for (place, piece) in layout.pieces.iter().enumerate() {
         if let Piece::Jump(_, to) = piece {
             if let Some(found) = guard_of(layout.slots, *to) {
                 if let Some(laid) = layout.guards.get(found) {
-                    count_compare(&mut all, laid.guard, found, slot);
+                    count_compare(all, laid.guard, found, slot);
                 }
             }
         }
         slot = slot.saturating_add(number_at(sizes, place));
     }
+}
+
+/// The guards of a program, and where each compares first.
+fn guards_of(alloc: Global, layout: &Layout<'_>, sizes: &[usize]) -> Result<Guards, AllocError> {
+    let mut all = Guards {
+        guards: unplaced(alloc, &layout.guards, layout.origins)?,
+        compares: [0; Guard::COUNT],
+    };
+    count_compares(&mut all, layout, sizes);
     Ok(all)
 }
 
@@ -419,20 +422,30 @@ fn slots_of(
 
 /// The program of the pieces that were laid out.
 pub(crate) fn assembled(alloc: Global, layout: &Layout<'_>) -> Result<Linked, LinkFault> {
-    let pieces = layout.pieces.as_slice();
     let all = label_count(layout.slots, layout.guards.len());
-    let mut sizes = sizes(alloc, pieces, all)?;
+    let mut sizes = sizes(alloc, &layout.pieces, all)?;
     without_idle_stores(layout, &mut sizes);
     let count = count(&sizes);
     if count > MOST_SLOTS {
         return Err(too_long(alloc, layout, &sizes, count)?);
     }
-    let distances = distances(alloc, pieces, &sizes, all, count)?;
-    let Guards { guards, compares } = guards_of(alloc, layout, &sizes)?;
+    Ok(of_sizes(alloc, layout, &sizes, all, count)?)
+}
+
+/// The program of the pieces that were laid out, which take so many slots each and `count` in all.
+fn of_sizes(
+    alloc: Global,
+    layout: &Layout<'_>,
+    sizes: &[usize],
+    all: usize,
+    count: usize,
+) -> Result<Linked, AllocError> {
+    let Guards { guards, compares } = guards_of(alloc, layout, sizes)?;
+    let distances = distances(alloc, &layout.pieces, sizes, all, count)?;
     let words = mark_words(alloc, layout, &guards)?;
     Ok(Linked {
-        slots: slots_of(alloc, pieces, &sizes, &distances, &words)?,
-        origins: origins(alloc, layout, &sizes)?,
+        slots: slots_of(alloc, &layout.pieces, sizes, &distances, &words)?,
+        origins: origins(alloc, layout, sizes)?,
         compares,
         guards,
         mark: layout.mark,

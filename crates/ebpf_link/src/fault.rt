@@ -5,19 +5,15 @@ ghost use Rattle.ebpf_link.specs.declared.fault.LinkFault.TheVariants.{Memory};
 
 use crate::guards::GuardPlace;
 use std::alloc::AllocError;
-use thiserror::Error;
 
 /// Why no program is made.
-#[derive(Debug, Drop, Error)]
+#[derive(Debug, Drop)]
 pub enum LinkFault {
     /// There is no memory for it.
-    #[error("out of memory")]
     Memory(AllocError),
     /// An instruction leads to a slot at which none begins.
-    #[error("an instruction leads to slot {0}, where none begins")]
     Leaves(usize),
     /// A loop has no end that is known, or so many rounds that more is laid out than is looked at.
-    #[error("a loop that isn't known to be over after {rounds} rounds")]
     Loop {
         /// The slot of the jump back, of those that were given.
         back: usize,
@@ -27,7 +23,6 @@ pub enum LinkFault {
         count: usize,
     },
     /// There are more slots than a program can have.
-    #[error("{count} slots, and a program has {most} at most", most = program_interface::MOST_SLOTS)]
     TooLong {
         /// How many.
         count: usize,
@@ -35,22 +30,18 @@ pub enum LinkFault {
         widest: Option<Widest>,
     },
     /// A guard always ends the block run.
-    #[error("the block run always ends in front of slot {}", .0.slot)]
     Ends(GuardPlace),
     /// A guard would end a block run, and there are no bytes of scratch in which it could write which one it was: none at all into which
     /// nothing is stored, or not these.
-    #[error("a guard has no bytes of scratch to write to")]
     NoMark(Option<usize>),
     /// Guards that write have no room on the stack beside so many bytes.
-    #[error("guards have no room on the stack beside {0} bytes")]
     NoStack(usize),
     /// An address may be one of the context or of another area, and no register has the context's.
-    #[error("an address in the context or in another area, at slot {0}")]
     Address(usize),
 }
 
 /// The loop that most slots of a program are of.
-#[derive(Clone, Copy, Debug, PartialEq, Eq)]
+#[derive(Clone, Copy, Debug)]
 pub struct Widest {
     /// The slot of the jump back, of those that were given.
     pub back: usize,

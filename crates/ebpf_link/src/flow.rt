@@ -24,15 +24,6 @@ pub(crate) fn set(list: &mut [Option<usize>], place: usize, number: usize) {
     }
 }
 
-/// So many places with nothing.
-pub(crate) fn nothing(alloc: Global, count: usize) -> Result<Vec<Option<usize>>, AllocError> {
-    let mut list: Vec<Option<usize>> = Vec::new(alloc);
-    for _ in 0..count {
-        list.push(None)?;
-    }
-    Ok(list)
-}
-
 /// A slot at which an instruction begins.
 fn begun(slots: &[Option<Instruction>], slot: i64) -> Result<usize, LinkFault> {
     if slot < 0 {
@@ -106,31 +97,39 @@ pub(crate) fn last_first(
     alloc: Global,
     slots: &[Option<Instruction>],
 ) -> Result<Vec<usize>, LinkFault> {
-    let mut stages = Vec::new(alloc);
-    for _ in 0..slots.len() {
-        stages.extend_from_slice(&[Stage::New])?;
-    }
+    let mut stages = vec![in alloc; Stage::New; slots.len()]?;
     let mut done = Vec::new(alloc);
-    let mut stack = Vec::new(alloc);
-    stack.extend_from_slice(&[0usize])?;
+    let mut stack = vec![in alloc; 0; 1]?;
     for _ in 0..8 * MOST_SLOTS {
         let Some(slot) = stack.pop() else {
             break;
         };
-        match stage_of(&stages, slot) {
-            Stage::New => {
-                let ways = ways_from(slots, slot)?;
-                set_stage(&mut stages, slot, Stage::Open);
-                stack.extend_from_slice(&[slot])?;
-                push_new(&mut stack, &stages, ways.behind)?;
-                push_new(&mut stack, &stages, ways.target)?;
-            }
-            Stage::Open => {
-                set_stage(&mut stages, slot, Stage::Done);
-                done.extend_from_slice(&[slot])?;
-            }
-            Stage::Done => {}
-        }
+        walk(slots, slot, &mut stages, &mut stack, &mut done)?;
     }
     Ok(done)
+}
+
+/// Goes on from a slot that is new to those that it leads to; where these are done, so is it.
+fn walk(
+    slots: &[Option<Instruction>],
+    slot: usize,
+    stages: &mut [Stage],
+    stack: &mut Vec<usize>,
+    done: &mut Vec<usize>,
+) -> Result<(), LinkFault> {
+    match stage_of(stages, slot) {
+        Stage::New => {
+            let ways = ways_from(slots, slot)?;
+            set_stage(stages, slot, Stage::Open);
+            stack.extend_from_slice(&[slot])?;
+            push_new(stack, stages, ways.behind)?;
+            push_new(stack, stages, ways.target)?;
+        }
+        Stage::Open => {
+            set_stage(stages, slot, Stage::Done);
+            done.extend_from_slice(&[slot])?;
+        }
+        Stage::Done => {}
+    }
+    Ok(())
 }

@@ -36,7 +36,7 @@ pub const BLOCK_GUARD: i32 = 0x7003;
 pub const ROUNDS_GUARD: i32 = 0x7004;
 
 /// The kinds of guards.
-#[derive(Clone, Copy, Debug, PartialEq, Eq)]
+#[derive(Clone, Copy, PartialEq, Eq)]
 pub enum Guard {
     /// An access lies within its area.
     Memory,
@@ -102,7 +102,7 @@ pub enum Need {
 }
 
 /// A guard in front of what stands at a slot, and what must hold.
-#[derive(Clone, Copy, Debug, PartialEq, Eq)]
+#[derive(Clone, Copy, Debug)]
 pub struct GuardPlace {
     /// The slot, of those that were given.
     pub slot: usize,

@@ -8,10 +8,11 @@ ghost use Rattle.ebpf_link.specs.declared.pieces.Piece.TheVariants.{Begins, Jump
 use crate::area_sets::AreaSet;
 use crate::assembling::Cut;
 use crate::fault::LinkFault;
+use crate::flow::{found, set};
 use crate::guards::{Guard, GuardPlace, Need, stored};
 use crate::known::{Known, at_start, join};
 use crate::labels::guard_label;
-use crate::lists::{number_at, set_answer};
+use crate::lists::{number_at, set_answer, set_number};
 use crate::liveness::Registers;
 use crate::loops::Loops;
 use crate::marks::CELLS_BYTES;
@@ -167,7 +168,7 @@ impl Layout<'_> {
     fn found_guard(&self, guard: Guard, need: Need) -> Option<usize>
         ensures { IfSome result (λ place. IsGuardAt self.now.guards.items place guard self.now.here need) }
     {
-        let mut next = *self.last_guards.get(self.here)?;
+        let mut next = found(&self.last_guards, self.here);
         for _ in 0..self.guards.len() {
             let place = next?;
             let laid = self.guards.get(place)?;
@@ -192,19 +193,14 @@ impl Layout<'_> {
         }
         let number = self.guards.len();
         let slot = self.here;
-        let before = match self.last_guards.get(slot) {
-            Some(found) => *found,
-            None => None,
-        };
+        let before = found(&self.last_guards, slot);
         let place = GuardPlace { slot, need };
         self.guards.extend_from_slice(&[LaidGuard {
             guard,
             place,
             before,
         }])?;
-        if let Some(last) = self.last_guards.get_mut(slot) {
-            *last = Some(number);
-        }
+        set(&mut self.last_guards, slot, number);
         Ok(number)
     }
 
@@ -383,13 +379,12 @@ impl Layout<'_> {
     /// Counts a round of the loop that begins at a slot: the first, where it is come to from outside.
     fn count_round(&mut self, slot: usize) {
         let is_inside = slot <= self.before && self.before <= self.loops.end(slot);
-        if let Some(rounds) = self.rounds.get_mut(slot) {
-            *rounds = if is_inside {
-                rounds.saturating_add(1)
-            } else {
-                1
-            };
-        }
+        let rounds = if is_inside {
+            number_at(&self.rounds, slot).saturating_add(1)
+        } else {
+            1
+        };
+        set_number(&mut self.rounds, slot, rounds);
         if !is_inside {
             self.forget_ways(slot);
         }
@@ -449,10 +444,22 @@ impl Layout<'_> {
         Ok(cuts)
     }
 
+    /// Makes room for what is known of each slot.
+    fn make_lists(&mut self) -> Result<(), AllocError> {
+        let count = self.slots.len();
+        self.rounds.resize(count, 0)?;
+        self.is_cut.resize(count, false)?;
+        self.leaves.resize(count, false)?;
+        self.last_guards.resize(count, None)?;
+        self.ended.resize(count, None)?;
+        self.passed.resize(count, false)
+    }
+
     /// Lays all slots out.
     pub(crate) fn run(&mut self, alloc: Global) -> Result<(), LinkFault>
         ensures { IfOk result (λ _. EndsAll self.new) }
     {
+        self.make_lists()?;
         let mut known = at_start(self.plan.scratch);
         if self.own <= 488 {
             self.keep_addresses(&mut known)?;
@@ -487,15 +494,6 @@ pub(crate) fn boxed(alloc: Global, known: Known) -> Result<Box<Known>, AllocErro
         Ok(known) => Ok(known),
         Err(error) => Err(AllocError::from(error)),
     }
-}
-
-/// So many slots at which nothing ends the block run.
-pub(crate) fn no_needs(alloc: Global, count: usize) -> Result<Vec<Option<Need>>, AllocError> {
-    let mut needs = Vec::new(alloc);
-    for _ in 0..count {
-        needs.extend_from_slice(&[None])?;
-    }
-    Ok(needs)
 }
 
 /// So many rows with nothing.

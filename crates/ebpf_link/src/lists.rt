@@ -4,24 +4,6 @@ ghost use Rattle.std.specs.Prelude.{◌≡◌, slice_index};
 
 use std::alloc::{AllocError, Global};
 
-/// So many zeros.
-pub(crate) fn zeros(alloc: Global, count: usize) -> Result<Vec<usize>, AllocError> {
-    let mut list = Vec::new(alloc);
-    for _ in 0..count {
-        list.push(0)?;
-    }
-    Ok(list)
-}
-
-/// So many times false.
-pub(crate) fn no_answers(alloc: Global, count: usize) -> Result<Vec<bool>, AllocError> {
-    let mut list = Vec::new(alloc);
-    for _ in 0..count {
-        list.push(false)?;
-    }
-    Ok(list)
-}
-
 /// The number at a place of a list, or 0.
 pub(crate) fn number_at(list: &[usize], place: usize) -> usize
     ensures { result ≡ slice_index list.now place }

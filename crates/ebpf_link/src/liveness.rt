@@ -116,10 +116,7 @@ pub(crate) fn live_registers(
     alloc: Global,
     slots: &[Option<Instruction>],
 ) -> Result<Vec<Registers>, AllocError> {
-    let mut live = Vec::new(alloc);
-    for _ in 0..slots.len() {
-        live.push(0)?;
-    }
+    let mut live = vec![in alloc; 0; slots.len()]?;
     for _ in 0..MOST_PASSES {
         if !pass(slots, &mut live) {
             return Ok(live);

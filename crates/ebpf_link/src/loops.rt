@@ -44,11 +44,10 @@ fn first_ends(
     slots: &[Option<Instruction>],
 ) -> Result<(Vec<usize>, Vec<bool>), AllocError> {
     let mut ends = Vec::new(alloc);
-    let mut heads = Vec::new(alloc);
     for slot in 0..slots.len() {
         ends.push(slot)?;
-        heads.push(false)?;
     }
+    let mut heads = vec![in alloc; false; slots.len()]?;
     for (slot, instruction) in slots.iter().enumerate() {
         if let Some(target) = back(slot, instruction) {
             raise(&mut ends, target, slot);

@@ -2,7 +2,7 @@
 //! a loop stand one behind the other.
 
 use crate::fault::LinkFault;
-use crate::flow::{found, last_first, nothing, set, ways_from};
+use crate::flow::{found, last_first, set, ways_from};
 use instruction_set::Instruction;
 use program_interface::MOST_SLOTS;
 use std::alloc::{AllocError, Global};
@@ -46,8 +46,8 @@ fn edges_of(
     reached: &[usize],
 ) -> Result<Edges, LinkFault> {
     let mut edges = Edges {
-        first: nothing(alloc, slots.len())?,
-        next: nothing(alloc, slots.len().min(MOST_SLOTS) * 2)?,
+        first: vec![in alloc; None; slots.len()]?,
+        next: vec![in alloc; None; slots.len().min(MOST_SLOTS) * 2]?,
     };
     for slot in reached {
         let ways = ways_from(slots, *slot)?;
@@ -118,11 +118,11 @@ fn loops_around(
     reached: &[usize],
 ) -> Result<Vec<Option<usize>>, LinkFault> {
     let edges = edges_of(alloc, slots, reached)?;
-    let mut ranks = nothing(alloc, slots.len())?;
+    let mut ranks = vec![in alloc; None; slots.len()]?;
     for (place, slot) in reached.iter().enumerate() {
         set(&mut ranks, *slot, reached.len().saturating_sub(place));
     }
-    let mut heads = nothing(alloc, slots.len())?;
+    let mut heads = vec![in alloc; None; slots.len()]?;
     for slot in reached {
         find_loop(alloc, &edges, &ranks, &mut heads, *slot)?;
     }
@@ -133,8 +133,8 @@ fn loops_around(
 fn in_order(alloc: Global, slots: &[Option<Instruction>]) -> Result<Vec<usize>, LinkFault> {
     let reached = last_first(alloc, slots)?;
     let heads = loops_around(alloc, slots, &reached)?;
-    let mut first = nothing(alloc, slots.len())?;
-    let mut next = nothing(alloc, slots.len())?;
+    let mut first = vec![in alloc; None; slots.len()]?;
+    let mut next = vec![in alloc; None; slots.len()]?;
     let mut top = None;
     for slot in reached.iter() {
         match found(&heads, *slot) {
@@ -225,7 +225,7 @@ fn places(
     slots: &[Option<Instruction>],
     placed: &[Placed],
 ) -> Result<Vec<Option<usize>>, AllocError> {
-    let mut places = nothing(alloc, slots.len())?;
+    let mut places = vec![in alloc; None; slots.len()]?;
     let mut place: usize = 0;
     for one in placed {
         if one.jump.is_none() {

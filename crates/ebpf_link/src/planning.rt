@@ -3,10 +3,9 @@
 use crate::area_sets::{AreaSet, NO_AREA};
 use crate::assembling::{Linked, assembled};
 use crate::fault::LinkFault;
-use crate::flow::nothing;
 use crate::guards::GuardPlace;
-use crate::layout::{Layout, empty_rows, no_needs};
-use crate::lists::{answers_of, no_answers, number_at, set_number, zeros};
+use crate::layout::{Layout, empty_rows};
+use crate::lists::{answers_of, number_at, set_number};
 use crate::liveness::{Registers, live_registers};
 use crate::loops::Loops;
 use crate::ordering::{Sequence, ordered};
@@ -15,6 +14,7 @@ use crate::target::{LoopRule, Target};
 use instruction_set::Instruction;
 use program_interface::MOST_SLOTS;
 use std::alloc::{AllocError, Global};
+use std::mem;
 
 /// What is known beforehand: how much records may have, and what scratch may.
 #[derive(Clone, Copy)]
@@ -47,7 +47,6 @@ fn laid_once<'a>(
     caps: &'a [usize],
     plan: Plan,
 ) -> Result<Layout<'a>, LinkFault> {
-    let count = parts.slots.len();
     let mut layout = Layout {
         slots: &parts.slots,
         origins: &parts.origins,
@@ -56,11 +55,11 @@ fn laid_once<'a>(
         loops: &parts.loops,
         live: &parts.live,
         plan,
-        rows: empty_rows(alloc, count)?,
-        rounds: zeros(alloc, count)?,
+        rows: empty_rows(alloc, parts.slots.len())?,
+        rounds: Vec::new(alloc),
         caps,
-        is_cut: no_answers(alloc, count)?,
-        leaves: no_answers(alloc, count)?,
+        is_cut: Vec::new(alloc),
+        leaves: Vec::new(alloc),
         before: 0,
         emitted: 0,
         pieces: Vec::new(alloc),
@@ -69,16 +68,18 @@ fn laid_once<'a>(
         uses_scratch: false,
         uses_context: false,
         guards: Vec::new(alloc),
-        last_guards: nothing(alloc, count)?,
+        last_guards: Vec::new(alloc),
         stored: 0,
         mark: None,
         here: 0,
-        ended: no_needs(alloc, count)?,
-        passed: no_answers(alloc, count)?,
+        ended: Vec::new(alloc),
+        passed: Vec::new(alloc),
         scratch: plan.scratch,
     };
-    layout.run(alloc)?;
-    Ok(layout)
+    match layout.run(alloc) {
+        Ok(()) => Ok(layout),
+        Err(fault) => Err(fault),
+    }
 }
 
 /// Lays a program out, with so many rounds of each loop.
@@ -134,6 +135,26 @@ struct Made {
     is_cut: Vec<bool>,
     /// A guard that always ends the block run, if there is one.
     ended: Option<GuardPlace>,
+    /// The most bytes that are emitted, frame lengths counted.
+    emitted: usize,
+}
+
+/// The program of what is laid out.
+fn made_of(alloc: Global, layout: &mut Layout<'_>) -> Result<Made, LinkFault> {
+    Ok(Made {
+        linked: assembled(alloc, layout)?,
+        ended: layout.first_ended(),
+        emitted: layout.emitted,
+        is_cut: mem::replace(&mut layout.is_cut, Vec::new(alloc)),
+    })
+}
+
+/// A program with so many rounds of each loop, where this is known beforehand.
+fn made_by(alloc: Global, parts: &Parts, caps: &[usize], plan: Plan) -> Result<Made, LinkFault> {
+    let mut layout = laid_out(alloc, parts, caps, plan)?;
+    let made = made_of(alloc, &mut layout);
+    drop(layout);
+    made
 }
 
 /// A program with so many rounds of each loop.
@@ -143,26 +164,17 @@ fn made_with(alloc: Global, parts: &Parts, caps: &[usize]) -> Result<Made, LinkF
         is_counted: true,
         scratch: NO_AREA,
     };
-    let layout = laid_out(alloc, parts, caps, plan)?;
-    let linked = assembled(alloc, &layout)?;
-    if layout.emitted <= parts.target.limit {
-        return Ok(Made {
-            linked,
-            ended: layout.first_ended(),
-            is_cut: layout.is_cut,
-        });
+    let made = made_by(alloc, parts, caps, plan)?;
+    if made.emitted <= parts.target.limit {
+        return Ok(made);
     }
+    drop(made);
     let plan = Plan {
         longest: longest(alloc, parts, caps)?,
         is_counted: false,
         scratch: NO_AREA,
     };
-    let layout = laid_out(alloc, parts, caps, plan)?;
-    Ok(Made {
-        linked: assembled(alloc, &layout)?,
-        ended: layout.first_ended(),
-        is_cut: layout.is_cut,
-    })
+    made_by(alloc, parts, caps, plan)
 }
 
 /// A program with so many rounds of each loop; none, where it has more slots than can be.
@@ -282,7 +294,7 @@ fn is_length(fault: &LinkFault) -> bool {
 
 /// A program with as many rounds as there are slots for: first the same for each loop, then more for one after the other.
 fn cut(alloc: Global, parts: &Parts) -> Result<Option<Linked>, LinkFault> {
-    let mut caps = zeros(alloc, parts.slots.len())?;
+    let mut caps = vec![in alloc; 0; parts.slots.len()]?;
     let Some(mut best) = shortened(alloc, parts, &mut caps)? else {
         return Ok(None);
     };
@@ -296,8 +308,7 @@ fn cut(alloc: Global, parts: &Parts) -> Result<Option<Linked>, LinkFault> {
 
 /// A program with all rounds; where it has more slots than can be, and loops may be cut, with as many rounds as there are slots for.
 fn planned(alloc: Global, parts: &Parts) -> Result<Linked, LinkFault> {
-    let mut caps = zeros(alloc, parts.slots.len())?;
-    fill(&mut caps, usize::MAX);
+    let caps = vec![in alloc; usize::MAX; parts.slots.len()]?;
     match made_with(alloc, parts, &caps) {
         Ok(found) => match found.ended {
             Some(place) => Err(LinkFault::Ends(place)),

@@ -3,7 +3,7 @@
 ghost use Rattle.ebpf_link.specs.Remainders.{RemaindersAreDifferences};
 
 use crate::flow::ways_from;
-use crate::lists::{no_answers, set_answer};
+use crate::lists::set_answer;
 use crate::liveness::{bit, writes};
 use instruction_set::{Instruction, Operation, Register, Source, Width};
 use std::alloc::{AllocError, Global};
@@ -13,7 +13,7 @@ const FARTHEST: usize = 32;
 
 /// Which slots are jumped to.
 fn targets(alloc: Global, slots: &[Option<Instruction>]) -> Result<Vec<bool>, AllocError> {
-    let mut targets = no_answers(alloc, slots.len())?;
+    let mut targets = vec![in alloc; false; slots.len()]?;
     for slot in 0..slots.len() {
         if let Ok(ways) = ways_from(slots, slot) {
             if let Some(to) = ways.target {

@@ -3,7 +3,7 @@
 use program_interface::BlockSize;
 
 /// What becomes of a loop of which not all rounds can be laid out.
-#[derive(Clone, Copy, Debug, PartialEq, Eq)]
+#[derive(Clone, Copy, PartialEq, Eq)]
 pub enum LoopRule {
     /// No program is made.
     Whole,
@@ -12,7 +12,7 @@ pub enum LoopRule {
 }
 
 /// Where in scratch a guard that ends a block run writes which one it was.
-#[derive(Clone, Copy, Debug, PartialEq, Eq)]
+#[derive(Clone, Copy)]
 pub enum MarkRule {
     /// The last bytes into which nothing is stored.
     Found,
@@ -23,7 +23,7 @@ pub enum MarkRule {
 }
 
 /// What a program is made for.
-#[derive(Clone, Copy, Debug, PartialEq, Eq)]
+#[derive(Clone, Copy)]
 pub struct Target {
     /// The size of the blocks.
     pub block: BlockSize,

@@ -14,7 +14,7 @@ use command_entry::{entries, entry};
 use command_exec::{exec, fail};
 use command_explain::explain;
 use command_files::arguments::no_command;
-use command_files::{Failure, Files, Shown, printed};
+use command_files::{Failure, Files, Shown};
 use command_images::{format, report, upgrade, zones};
 use command_link::link;
 use command_programs::{asm, disasm, trace, unpack, verify};
@@ -51,12 +51,34 @@ pub fn command<'a, F: DurableFiles, I: Read + Drop, O: Write, E: Write>(
     ensures unnoted { OnErr result (E.contents streams.new.err ≡ E.contents streams.old.err) }
 {
     let mut line = command_line(alloc)?;
+    let done = command_in(alloc, &mut line, words, files, streams);
+    drop(line);
+    done
+}
+
+/// Reads the words by this parser, and does the command that they name.
+fn command_in<'a, F: DurableFiles, I: Read + Drop, O: Write, E: Write>(
+    alloc: Global,
+    line: &mut Command<'a>,
+    words: &'a [String],
+    files: &mut F,
+    streams: &mut Streams<I, O, E>,
+) -> Result<Option<Failure<'a>>, Failure<'a>>
+    ensures name { MakesNamed (F.made files.old) (F.made files.new) }
+    ensures one { streams.new.input ≡ streams.old.input → MakesFew (F.made files.old) (F.made files.new) }
+    ensures kept { streams.new.input ≡ streams.old.input
+        → IfErr result (λ failure. failure ≢ Failure.CannotPrint → F.made files.new ≡ F.made files.old) }
+    ensures contents { streams.new.input ≡ streams.old.input
+        → IfErr result (λ failure. failure ≢ Failure.CannotPrint → F.contents files.new ≡ F.contents files.old) }
+    ensures unnoted { OnErr result (E.contents streams.new.err ≡ E.contents streams.old.err) }
+{
     match line.try_get_matches_from_mut(words) {
-        Ok(matches) => perform(alloc, &mut line, &matches, files, streams),
-        Err(error) => {
-            print_help(alloc, words, error, &mut streams.out)?;
-            Ok(None)
+        Ok(matches) => {
+            let done = perform(alloc, line, &matches, files, streams);
+            drop(matches);
+            done
         }
+        Err(error) => perform_none(alloc, words, error, &mut streams.out),
     }
 }
 
@@ -70,20 +92,44 @@ pub fn ended<'a>(done: Result<Option<Failure<'a>>, Failure<'a>>) -> Result<(), F
     }
 }
 
-/// Prints the help or the version that was asked for; of wrong words it gives the failure.
-fn print_help<'a, O: Write>(
+/// Prints the help or the version where that was asked for; of wrong words it gives the failure.
+fn perform_none<'a, O: Write>(
     alloc: Global,
     words: &[String],
     error: clap::Error,
     out: &mut O,
-) -> Result<(), Failure<'a>> {
+) -> Result<Option<Failure<'a>>, Failure<'a>> {
     if error.kind() == ErrorKind::DisplayHelp || error.kind() == ErrorKind::DisplayVersion {
-        let text = format!(in alloc; "{error}")?;
-        let laid = laid_out(alloc, text.as_str())?;
-        return printed(out.write_all(laid.as_bytes()));
+        let done = print_help(alloc, &error, out);
+        drop(error);
+        return done;
     }
-    read_shown(alloc, words)?;
-    Err(Failure::from(error))
+    match read_shown(alloc, words) {
+        Ok(()) => Err(Failure::from(error)),
+        Err(failure) => {
+            drop(error);
+            Err(failure)
+        }
+    }
+}
+
+/// Prints the help or the version that was asked for.
+fn print_help<'a, O: Write>(
+    alloc: Global,
+    asked: &clap::Error,
+    out: &mut O,
+) -> Result<Option<Failure<'a>>, Failure<'a>> {
+    let text = help_text(alloc, asked)?;
+    match out.write_all(text.as_bytes()) {
+        Ok(()) => Ok(None),
+        Err(_) => Err(Failure::CannotPrint),
+    }
+}
+
+/// The help or the version that was asked for, laid out for a terminal.
+fn help_text(alloc: Global, asked: &clap::Error) -> Result<String, AllocError> {
+    let text = format!(in alloc; "{asked}")?;
+    laid_out(alloc, text.as_str())
 }
 
 /// Reads words as a terminal shows them. Those that are wrong are wrong in the same way then, since no name of a command or
@@ -94,11 +140,25 @@ fn print_help<'a, O: Write>(
 /// Why they are no command's.
 fn read_shown<'a>(alloc: Global, words: &[String]) -> Result<(), Failure<'a>> {
     let shown = shown_words(alloc, words)?;
+    read_words(alloc, shown.as_slice())
+}
+
+/// Reads words, and does nothing that they name.
+///
+/// # Errors
+///
+/// Why they are no command's.
+fn read_words<'a>(alloc: Global, words: &[String]) -> Result<(), Failure<'a>> {
     let mut line = command_line(alloc)?;
-    match line.try_get_matches_from_mut(shown.as_slice()) {
-        Ok(_) => Ok(()),
+    let read = match line.try_get_matches_from_mut(words) {
+        Ok(matches) => {
+            drop(matches);
+            Ok(())
+        }
         Err(error) => Err(Failure::from(error)),
-    }
+    };
+    drop(line);
+    read
 }
 
 /// Words as a terminal shows them.
@@ -172,13 +232,15 @@ fn perform_at_once<'a, F: DurableFiles, I, O: Write, E: Write>(
     match matches.subcommand() {
         Some((exec::NAME, matches)) => perform_exec(alloc, matches, files, &mut streams.out),
         Some((link::NAME, matches)) => {
-            perform_link(alloc, matches, files, &mut streams.out)?;
-            Ok(None)
+            match perform_link(alloc, matches, files, &mut streams.out) {
+                Ok(()) => Ok(None),
+                Err(failure) => Err(failure),
+            }
         }
-        Some((name, matches)) => {
-            perform_other(alloc, line, name, matches, files, streams)?;
-            Ok(None)
-        }
+        Some((name, matches)) => match perform_other(alloc, line, name, matches, files, streams) {
+            Ok(()) => Ok(None),
+            Err(failure) => Err(failure),
+        },
         None => Err(no_command(line)),
     }
 }
@@ -294,35 +356,51 @@ static LINE: Words = Words {
 
 /// How a command line is written.
 fn command_line<'a>(alloc: Global) -> Result<Command<'a>, AllocError> {
-    let alone: &'static [Words] = &[];
-    let commands = [
-        (&format::WORDS, alone),
-        (&zones::WORDS, alone),
-        (&report::WORDS, alone),
-        (&upgrade::WORDS, alone),
-        (&exec::WORDS, alone),
-        (&query::WORDS, alone),
-        (&serve::WORDS, alone),
-        (&fold::WORDS, alone),
-        (&asm::WORDS, alone),
-        (&disasm::WORDS, alone),
-        (&link::WORDS, alone),
-        (&trace::WORDS, alone),
-        (&verify::WORDS, alone),
-        (&unpack::WORDS, alone),
-        (&entry::WORDS, &entry::KINDS),
-        (&entries::WORDS, alone),
-        (&explain::WORDS, alone),
-        (&demo::WORDS, alone),
-    ];
-    let mut line = command_over(alloc, &LINE, alone)?.version(VERSION);
-    for (words, below) in commands {
-        let command = if below.is_empty() {
-            command_words::command(alloc, words)?
-        } else {
-            command_over(alloc, words, below)?
-        };
-        line = line.subcommand(command)?;
+    let parsers = parsers(alloc)?;
+    command_over(alloc, &LINE, &[])?
+        .version(VERSION)
+        .subcommands(parsers)
+}
+
+/// The parsers of all commands.
+fn parsers<'a>(alloc: Global) -> Result<Vec<Command<'a>>, AllocError> {
+    let commands = commands();
+    let mut parsers = Vec::with_capacity(alloc, commands.len())?;
+    for words in &commands {
+        parsers.push_reserved(parser(alloc, words)?);
     }
-    Ok(line)
+    Ok(parsers)
+}
+
+/// The words of each command.
+fn commands() -> [&'static Words; 18] {
+    [
+        &format::WORDS,
+        &zones::WORDS,
+        &report::WORDS,
+        &upgrade::WORDS,
+        &exec::WORDS,
+        &query::WORDS,
+        &serve::WORDS,
+        &fold::WORDS,
+        &asm::WORDS,
+        &disasm::WORDS,
+        &link::WORDS,
+        &trace::WORDS,
+        &verify::WORDS,
+        &unpack::WORDS,
+        &entry::WORDS,
+        &entries::WORDS,
+        &explain::WORDS,
+        &demo::WORDS,
+    ]
+}
+
+/// The parser of a command. There are commands below `entry` alone.
+fn parser<'a>(alloc: Global, words: &'static Words) -> Result<Command<'a>, AllocError> {
+    if words.name == entry::NAME {
+        command_over(alloc, words, &entry::KINDS)
+    } else {
+        command_words::command(alloc, words)
+    }
 }

@@ -26,16 +26,29 @@ pub fn asked_block<'a, F: Files>(
     ensures contents { F.contents files.new ≡ F.contents files.old }
 {
     match matches.get_str(entries::IMAGE) {
-        Some(path) => {
-            let read = device_file::load_table(alloc, path, files)?;
-            let geometry = geometry_in(&read);
-            Ok((geometry.block(), Some(geometry)))
-        }
-        None => {
-            let block = block_size(number_or_hexadecimal(matches, BLOCK_OPTION)?)?;
-            Ok((block, None))
-        }
+        Some(path) => block_in(alloc, path, files),
+        None => block_of(matches),
     }
+}
+
+/// The size of a block of the image with this name, with its geometry.
+fn block_in<'a, F: Files>(
+    alloc: Global,
+    path: &'a str,
+    files: &mut F,
+) -> Result<(BlockSize, Option<Geometry>), Failure<'a>>
+    ensures made { F.made files.new ≡ F.made files.old }
+    ensures contents { F.contents files.new ≡ F.contents files.old }
+{
+    let read = device_file::load_table(alloc, path, files)?;
+    let geometry = geometry_in(&read);
+    Ok((geometry.block(), Some(geometry)))
+}
+
+/// The size of a block that the words give.
+fn block_of<'a>(matches: &ArgMatches<'a>) -> Result<(BlockSize, Option<Geometry>), Failure<'a>> {
+    let block = block_size(number_or_hexadecimal(matches, BLOCK_OPTION)?)?;
+    Ok((block, None))
 }
 
 /// The geometry of an image whose zones were read.

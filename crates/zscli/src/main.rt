@@ -24,16 +24,32 @@ fn main(rt: HostRuntime) -> ExitCode {
         colored: rt.stdout().is_terminal() && !asks_no_color(&rt),
         err: rt.stderr(),
     };
-    let words = match command_line_words(&rt) {
-        Ok(words) => words,
-        Err(failure) => return ExitCode::from(conclude(Err(failure), &mut streams.err).status),
-    };
-    let done = ended(on_disk(&rt, words.as_slice(), &mut streams));
+    ExitCode::from(done(&rt, &mut streams))
+}
+
+/// Does what the words of the command line ask for, says how that ended, and gives the exit status.
+fn done<R: rt::Files<File = File> + Env + AllocGlobal, I: Read + Drop, O: Write, E: Write>(
+    rt: &R,
+    streams: &mut Streams<I, Caused<O>, E>,
+) -> u8 {
+    match command_line_words(rt) {
+        Ok(words) => done_of_words(rt, words.as_slice(), streams),
+        Err(failure) => conclude(Err(failure), &mut streams.err).status,
+    }
+}
+
+/// Does what these words ask for, says how that ended, and gives the exit status.
+fn done_of_words<R: rt::Files<File = File> + AllocGlobal, I: Read + Drop, O: Write, E: Write>(
+    rt: &R,
+    words: &[String],
+    streams: &mut Streams<I, Caused<O>, E>,
+) -> u8 {
+    let done = ended(on_disk(rt, words, streams));
     if let Err(Failure::CannotPrint) = &done {
         print_cause(streams.out.cause(), &mut streams.err);
     }
     // Where standard error fails, nobody can be told.
-    ExitCode::from(conclude(done, &mut streams.err).status)
+    conclude(done, &mut streams.err).status
 }
 
 /// The null device, or none where there is none. A standard stream that is closed leaves its number to the file that is opened next: what

@@ -1,5 +1,5 @@
 use Rattle.std.proofs.Common.{◌≡◌}
-use Rattle.command_entry.proofs.entries.text_of_lines.Given as goal
+use Rattle.command_entry.proofs.entries.add_lines.Given as goal
 
 abbrev pub invariant-loop-line : goal.invariant-loop-line
 invariant-loop-line g l = record {
