@@ -4,5 +4,5 @@ use Rattle.zscli.proofs.commands.parsers.Given as goal
 abbrev pub invariant-loop-words : goal.invariant-loop-words
 invariant-loop-words l = record {
   count : vec_len l.parsers ≡ l.words-index;
-  capacity : 17 ≤ vec_capacity l.parsers;
+  capacity : 18 ≤ vec_capacity l.parsers;
 }
