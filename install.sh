@@ -18,8 +18,8 @@
 # It takes these files, or those that the variables name:
 #
 #   ZSCLI            crates/zscli/out/zscli          built by ./zscli --help, or by the gate
-#   LIBPIFNJARL      hosts/c/out/libpifnjarl.a       built by hosts/c/library.sh hosts/c/out
-#   NVME_TCP_TARGET  hosts/nvme_tcp/out/nvme_tcp     built by hosts/nvme_tcp/build.sh hosts/nvme_tcp/out
+#   LIBPIFNJARL      c/out/libpifnjarl.a    built by c/library.sh c/out
+#   NVME_TCP_TARGET  target/out/nvme_tcp    built by target/build.sh target/out
 #
 # If one is missing, or older than its sources, it prints the command that builds it, and installs nothing.
 set -eu
@@ -90,8 +90,8 @@ python=${python:-$prefix/lib/python3/dist-packages}
 list=$prefix/share/pifnjarl/installed
 zsh=${zsh:-$prefix/share/zsh/site-functions}
 program=${ZSCLI:-$top/crates/zscli/out/zscli}
-library=${LIBPIFNJARL:-$top/hosts/c/out/libpifnjarl.a}
-target=${NVME_TCP_TARGET:-$top/hosts/nvme_tcp/out/nvme_tcp}
+library=${LIBPIFNJARL:-$top/c/out/libpifnjarl.a}
+target=${NVME_TCP_TARGET:-$top/target/out/nvme_tcp}
 version=$(sed -n 's/^const VERSION: &str = "\(.*\)";$/\1/p' "$top/crates/zscli/src/commands.rt")
 [ -n "$version" ] || fail "crates/zscli/src/commands.rt has no version"
 
@@ -100,20 +100,20 @@ tree() {
     "$1" 755 "$program" "$prefix/bin/zscli"
     "$1" 755 "$target" "$prefix/bin/pifnjarl-nvme-tcp"
     "$1" 644 "$library" "$libraries/libpifnjarl.a"
-    "$1" 644 "$top/hosts/c/pifnjarl.pc.in" "$libraries/pkgconfig/pifnjarl.pc"
-    "$1" 644 "$top/hosts/c/pifnjarl_device.h" "$prefix/include/pifnjarl_device.h"
-    "$1" 644 "$top/hosts/c/pifnjarl_durable.h" "$prefix/include/pifnjarl_durable.h"
-    "$1" 644 "$top/hosts/c/pifnjarl_entry.h" "$prefix/include/pifnjarl_entry.h"
+    "$1" 644 "$top/c/pifnjarl.pc.in" "$libraries/pkgconfig/pifnjarl.pc"
+    "$1" 644 "$top/c/pifnjarl_device.h" "$prefix/include/pifnjarl_device.h"
+    "$1" 644 "$top/c/pifnjarl_durable.h" "$prefix/include/pifnjarl_durable.h"
+    "$1" 644 "$top/c/pifnjarl_entry.h" "$prefix/include/pifnjarl_entry.h"
     "$1" 644 "$top/examples/pifnjarl_bpf.h" "$prefix/include/pifnjarl_bpf.h"
     "$1" 644 "$top/docs/zscli.1" "$prefix/share/man/man1/zscli.1"
-    "$1" 644 "$top/hosts/nvme_tcp/pifnjarl-nvme-tcp.8" "$prefix/share/man/man8/pifnjarl-nvme-tcp.8"
+    "$1" 644 "$top/target/pifnjarl-nvme-tcp.8" "$prefix/share/man/man8/pifnjarl-nvme-tcp.8"
     "$1" 644 "$top/docs/zscli.bash" "$prefix/share/bash-completion/completions/zscli"
     "$1" 644 "$top/docs/zscli.zsh" "$zsh/_zscli"
     "$1" 644 "$top/docs/zscli.fish" "$prefix/share/fish/vendor_completions.d/zscli.fish"
-    "$1" 644 "$top/hosts/python/pifnjarl.py" "$python/pifnjarl.py"
-    "$1" 644 "$top/hosts/nvme_tcp/pifnjarl-nvme-tcp@.service.in" "$prefix/lib/systemd/system/pifnjarl-nvme-tcp@.service"
-    "$1" 644 "$top/hosts/nvme_tcp/pifnjarl.sysusers" "$prefix/lib/sysusers.d/pifnjarl.conf"
-    "$1" 644 "$top/hosts/nvme_tcp/pifnjarl.tmpfiles" "$prefix/lib/tmpfiles.d/pifnjarl.conf"
+    "$1" 644 "$top/python/pifnjarl.py" "$python/pifnjarl.py"
+    "$1" 644 "$top/target/pifnjarl-nvme-tcp@.service.in" "$prefix/lib/systemd/system/pifnjarl-nvme-tcp@.service"
+    "$1" 644 "$top/target/pifnjarl.sysusers" "$prefix/lib/sysusers.d/pifnjarl.conf"
+    "$1" 644 "$top/target/pifnjarl.tmpfiles" "$prefix/lib/tmpfiles.d/pifnjarl.conf"
     "$1" 644 "$top/LICENSE-MIT" "$prefix/share/doc/pifnjarl/LICENSE-MIT"
     "$1" 644 "$top/LICENSE-APACHE" "$prefix/share/doc/pifnjarl/LICENSE-APACHE"
 }
@@ -152,10 +152,10 @@ look() {
     lacking=
     built "${ZSCLI-}" "$program" "./zscli --help > /dev/null      # proves and builds it; ZSCLI can name another" \
         "$top/crates" "$top/crates.txt"
-    built "${LIBPIFNJARL-}" "$library" "hosts/c/library.sh hosts/c/out      # LIBPIFNJARL can name another" \
-        "$top/crates" "$top/crates.txt" "$top/hosts/c"
-    built "${NVME_TCP_TARGET-}" "$target" "hosts/nvme_tcp/build.sh hosts/nvme_tcp/out      # NVME_TCP_TARGET can name another" \
-        "$top/crates" "$top/crates.txt" "$top/hosts/c" "$top/hosts/nvme_tcp"
+    built "${LIBPIFNJARL-}" "$library" "c/library.sh c/out      # LIBPIFNJARL can name another" \
+        "$top/crates" "$top/crates.txt" "$top/c"
+    built "${NVME_TCP_TARGET-}" "$target" "target/build.sh target/out      # NVME_TCP_TARGET can name another" \
+        "$top/crates" "$top/crates.txt" "$top/c" "$top/target"
     [ -z "$lacking" ] || fail "nothing was installed"
 }
 

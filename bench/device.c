@@ -4,7 +4,7 @@
    device FILTER          runs the filter over the source blocks in both ways, and prints what its completion says
    device FILTER ROUNDS   prints the least times of so many rounds; of Appends their rate beside that of copies */
 #define _POSIX_C_SOURCE 199309L
-#include "../hosts/c/pifnjarl_device.h"
+#include "../c/pifnjarl_device.h"
 
 #include <stdbool.h>
 #include <stdio.h>

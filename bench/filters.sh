@@ -20,7 +20,7 @@ for folder in counted unseen; do
     make -s -f "$here/../examples/Makefile" FROM="$here/$folder" TO="$work/$folder" CPU=v2 texts
 done
 # builds the program where it has to
-"$here/../.ci/proving.py" bench_programs
+"$here/../tools/gate/proving.py" bench_programs
 # times each filter of a folder
 timed() {
     for file in "$1"/*.text; do

@@ -12,7 +12,7 @@ programs=$here/../crates/bench_programs/out/bench_programs
 rounds=10
 repeats=20
 # builds the program where it has to
-"$here/../.ci/proving.py" bench_programs
+"$here/../tools/gate/proving.py" bench_programs
 for name in straight-1000 straight-4000 branchy-1000 branchy-4000 spilling-4000; do
     wanted=$("$work/dpdk" time $name 1 1 | sed -n 1p)
     if [ "$wanted" != "$("$programs" "$work/$name.bin" "$work/block.bin" 0 0 loads | sed -n 1p)" ]; then

@@ -11,7 +11,7 @@ ours=$here/../crates/bench_programs/out/bench_programs
 rounds=60
 repeats=200
 # builds the program where it has to
-"$here/../.ci/proving.py" bench_programs
+"$here/../tools/gate/proving.py" bench_programs
 for name in straight branchy; do
     # R0, the steps, and nothing emitted
     wanted=$("$ours" "$work/$name.bin" "$work/block.bin" 0 0 prepared)

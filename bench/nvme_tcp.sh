@@ -1,5 +1,5 @@
 #!/bin/sh
-# Times the target of hosts/nvme_tcp over loopback, beside the same program without a device, which answers at once, and with a journal:
+# Times the target over loopback, beside the same program without a device, which answers at once, and with a journal:
 # Appends and Reads of 4 KiB and of 128 KiB, one and 32 of them under way, on one queue. Of each the least of several rounds and launches;
 # the image is in memory.
 set -eu
@@ -8,11 +8,11 @@ here=$(cd "$(dirname "$0")" && pwd)
 work=$(mktemp -d /dev/shm/nvme_tcp.XXXXXX)
 trap 'rm -r "$work"' EXIT
 cc -O2 -Wall -o "$work/host" "$here/nvme_tcp.c"
-cc -std=c11 -O2 -Wall -Wextra -I "$here/../hosts/c" -o "$work/answers" "$here/../hosts/nvme_tcp/nvme_tcp.c" \
-    "$here/../hosts/nvme_tcp/operations.c" \
-    "$here/../hosts/c/pifnjarl_device.c" "$here/../hosts/c/image_file.c" "$here/../hosts/c/kept_file.c" \
-    "$here/../hosts/nvme_tcp/image_uuid.c" "$here/nvme_tcp_answers.c"
-"$here/../hosts/nvme_tcp/build.sh" "$work"
+cc -std=c11 -O2 -Wall -Wextra -I "$here/../c" -o "$work/answers" "$here/../target/nvme_tcp.c" \
+    "$here/../target/operations.c" \
+    "$here/../c/pifnjarl_device.c" "$here/../c/image_file.c" "$here/../c/kept_file.c" \
+    "$here/../target/image_uuid.c" "$here/nvme_tcp_answers.c"
+"$here/../target/build.sh" "$work"
 "$here/../zscli" format "$work/empty.img" --block 4096 --zones 4 --size 4096 --capacity 4096 --open 4 --active 4
 # the UUID of the subsystem that the host names
 echo 0f2b6a34-8c1d-4e7a-9b35-7a6f6e6a6172 > "$work/zoned.img.uuid"

@@ -1,7 +1,7 @@
 // In the place of crates/device_library: answers each PDU of bench/nvme_tcp.c at once, checks nothing, and has no device. What is written
 // is thrown away, and what is read are zeros.
-#include "../hosts/c/pifnjarl_handle.h"
-#include "../hosts/nvme_tcp/pifnjarl_loop.h"
+#include "../c/pifnjarl_handle.h"
+#include "../target/pifnjarl_loop.h"
 
 #include <string.h>
 

@@ -7,5 +7,5 @@
 # best of 20).
 set -eu
 cd "$(dirname "$0")/../crates/bench_packing"
-../../.ci/proving.py bench_packing
+../../tools/gate/proving.py bench_packing
 exec out/bench_packing time

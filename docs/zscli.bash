@@ -1,4 +1,4 @@
-# Made by docs/make.sh of the help texts: completes the words of zscli in bash.
+# Made by tools/pages/make.sh of the help texts: completes the words of zscli in bash.
 _zscli() {
     local word=${COMP_WORDS[COMP_CWORD]} before=${COMP_WORDS[COMP_CWORD-1]} words=zscli commands="" options=""
     case "$before" in

@@ -1,4 +1,4 @@
-# Made by docs/make.sh of the help texts: completes the words of zscli in fish.
+# Made by tools/pages/make.sh of the help texts: completes the words of zscli in fish.
 
 # do these words come first after the name of the program?
 function __zscli_begins

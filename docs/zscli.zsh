@@ -1,5 +1,5 @@
 #compdef zscli
-# Made by docs/make.sh of the help texts: completes the words of zscli in zsh.
+# Made by tools/pages/make.sh of the help texts: completes the words of zscli in zsh.
 
 _zscli() {
     local curcontext=$curcontext state line

@@ -5,7 +5,7 @@
 
 A console example is a block of lines that four spaces indent, whose first line begins with `$ `: commands after `$ `, what goes on
 after `> `, and what they print. All examples of a page are one transcript, FOLDER/PAGE.t. It is run in one folder, with what a reader
-finds at the root of the repository, whose path is the variable ROOT: `examples`, `hosts` and `zscli`. cram prints the status of a
+finds at the root of the repository, whose path is the variable ROOT: `examples`, `python` and `zscli`. cram prints the status of a
 command that fails: a page shows it by `|| echo status $?`.
 
 A page without an example gives no transcript. Neither does one whose tools are missing, other than first_run.md: a line says so.
@@ -23,7 +23,7 @@ INDENT = "    "
 START = """\
 What a reader of the page finds at the root of the repository.
 
-  $ cp -R "$ROOT/examples" "$ROOT/hosts" . && ln -s "$(command -v zscli)" zscli
+  $ cp -R "$ROOT/examples" "$ROOT/python" . && ln -s "$(command -v zscli)" zscli
 """
 
 # the programs that a command needs, other than those that every system has

@@ -34,7 +34,7 @@ trap 'rm -rf "$work"' EXIT
 trap 'exit 1' HUP INT TERM
 mkdir "$work/bin" "$work/pages"
 CALLS=$work/calls.so
-${CC:-cc} -std=c11 -Wall -Wextra -Werror -O1 -shared -fPIC -o "$CALLS" "$ROOT/failing/calls.c" || exit 1
+${CC:-cc} -std=c11 -Wall -Wextra -Werror -O1 -shared -fPIC -o "$CALLS" "$ROOT/tests/faults/calls.c" || exit 1
 ln -s "$program" "$work/bin/zscli"
 PATH=$work/bin:$PATH
 export PATH ROOT CALLS

@@ -15,7 +15,7 @@ from pathlib import Path
 from typing import Dict, Iterator, List, NamedTuple, Optional, Sequence, Tuple
 
 ROOT = Path(__file__).resolve().parents[2]
-sys.path.append(str(ROOT / "hosts/nvme_tcp"))
+sys.path.append(str(ROOT / "target"))
 from calls import Call, Kind, calls_of
 from events import BLOCK, Event, Opcode, Request, look_twice, replies, seen
 from nvme_tcp_connection import HostError

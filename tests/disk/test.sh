@@ -13,15 +13,15 @@ export NVME_TCP_TARGET="$work/nvme_tcp"
 
 # a program of this folder, linked with the library
 compile() {
-    ${CC:-gcc} -std=c11 -O2 -Wall -Wextra -Werror -I "$top/hosts/c" "$here/$1.c" "$work/libpifnjarl.a" -o "$2"
+    ${CC:-gcc} -std=c11 -O2 -Wall -Wextra -Werror -I "$top/c" "$here/$1.c" "$work/libpifnjarl.a" -o "$2"
 }
 
 made() {
     ${CC:-gcc} -std=c11 -O2 -Wall -Wextra -Werror -shared -fPIC "$here/shadow.c" -o "$SHADOW" &&
-        "$top/hosts/c/library.sh" "$work" &&
+        "$top/c/library.sh" "$work" &&
         compile kept_frames "$KEPT_FRAMES" &&
         compile saves "$SAVES" &&
-        "$top/hosts/nvme_tcp/build.sh" "$work"
+        "$top/target/build.sh" "$work"
 }
 
 if ! made; then

@@ -20,7 +20,7 @@ from slots import SCRATCH, with_scratch_loaded
 
 HERE = Path(__file__).resolve().parent
 ROOT = HERE.parents[1]
-sys.path.insert(0, str(ROOT / "hosts/python"))
+sys.path.insert(0, str(ROOT / "python"))
 import pifnjarl
 
 # the blocks of a zone: the first zone is a run's source, the second its destination

@@ -55,7 +55,7 @@ stub() {
 
 make_library() {
     if is_new device_library; then
-        "$top/hosts/c/library.sh" "$work/made"
+        "$top/c/library.sh" "$work/made"
     else
         echo 'the library for C is a stub, as its crate is not built'
         library=stub
@@ -66,14 +66,14 @@ make_library() {
 
 make_target() {
     if is_new device_library; then
-        "$top/hosts/nvme_tcp/build.sh" "$work/made"
+        "$top/target/build.sh" "$work/made"
     else
         echo 'the target is a stub, as its crate is not built'
         target=stub
         stub pifnjarl_handle_bytes pifnjarl_handle_open pifnjarl_handle_call pifnjarl_handle_end pifnjarl_words &&
-            ${CC:-gcc} -std=c11 -I "$top/hosts/c" "$top/hosts/nvme_tcp/nvme_tcp.c" "$top/hosts/nvme_tcp/loop.c" \
-                "$top/hosts/nvme_tcp/operations.c" "$top/hosts/nvme_tcp/image_uuid.c" \
-                "$top/hosts/c/image_file.c" "$top/hosts/c/kept_file.c" "$work/stub.o" -o "$work/made/nvme_tcp"
+            ${CC:-gcc} -std=c11 -I "$top/c" "$top/target/nvme_tcp.c" "$top/target/loop.c" \
+                "$top/target/operations.c" "$top/target/image_uuid.c" \
+                "$top/c/image_file.c" "$top/c/kept_file.c" "$work/stub.o" -o "$work/made/nvme_tcp"
     fi
 }
 
@@ -128,8 +128,8 @@ names_no_folder_of_the_build() {
 }
 
 try 'without the program' lacks ZSCLI './zscli --help'
-try 'without the library' lacks LIBPIFNJARL 'hosts/c/library.sh hosts/c/out'
-try 'without the target' lacks NVME_TCP_TARGET 'hosts/nvme_tcp/build.sh hosts/nvme_tcp/out'
+try 'without the library' lacks LIBPIFNJARL 'c/library.sh c/out'
+try 'without the target' lacks NVME_TCP_TARGET 'target/build.sh target/out'
 try 'a relative prefix is refused' refuses_words --prefix none
 try 'a prefix with a blank is refused' refuses_words --prefix "$work/no ne"
 try 'a missing prefix is refused' refuses_words --prefix
@@ -163,7 +163,7 @@ cd "$work" || exit 1
 version_is_one() {
     version=$(zscli --version)
     version=${version#zscli }
-    grep -qx "version = \"$version\"" "$top/hosts/python/pyproject.toml" && grep -qx "Version: $version" "$a/lib/pkgconfig/pifnjarl.pc"
+    grep -qx "version = \"$version\"" "$top/python/pyproject.toml" && grep -qx "Version: $version" "$a/lib/pkgconfig/pifnjarl.pc"
 }
 
 formats() {
@@ -276,8 +276,8 @@ C
 
 example_runs() {
     # shellcheck disable=SC2046
-    ${CC:-gcc} -std=c11 -o append_and_read "$top/hosts/c/append_and_read.c" $(flags) &&
-        ./append_and_read "$top/examples/empty.img" saved.img | diff "$top/hosts/c/append_and_read.out" -
+    ${CC:-gcc} -std=c11 -o append_and_read "$top/c/append_and_read.c" $(flags) &&
+        ./append_and_read "$top/examples/empty.img" saved.img | diff "$top/c/append_and_read.out" -
 }
 
 filter_is_accepted() {
@@ -302,7 +302,7 @@ PYTHON
 }
 
 pip_installs() {
-    cp -R "$top/hosts/python" python
+    cp -R "$top/python" python
     venv/bin/python -m pip install --no-build-isolation --no-index --disable-pip-version-check -q ./python && module_works venv/bin/python &&
         venv/bin/python -m pip uninstall -q -y pifnjarl
 }
@@ -310,7 +310,7 @@ pip_installs() {
 try 'a program links' links
 [ "$library" = stub ] || try 'an example of the library' example_runs
 try_with clang 'a filter' filter_is_accepted
-try 'the examples in docstrings' python3 -m doctest "$top/hosts/python/package.py" "$top/docs/completions.py"
+try 'the examples in docstrings' python3 -m doctest "$top/python/package.py" "$top/tools/pages/completions.py"
 try 'the module' module_works env PYTHONPATH="$a/lib/python3/dist-packages" python3
 if python3 -m venv --system-site-packages venv > /dev/null 2>&1; then
     try 'pip installs the module' pip_installs

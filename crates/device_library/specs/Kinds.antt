@@ -1,4 +1,4 @@
--- What C asks a handle for, by number, as `hosts/c/pifnjarl_handle.h` has it.
+-- What C asks a handle for, by number, as `c/pifnjarl_handle.h` has it.
 use Rattle.std.specs.Prelude.{ℕ, ◌==◌, Option, Some, None, if◌then◌else◌}
 use Rattle.device_library.specs.declared.kind.Door.{Door}
 use Rattle.device_library.specs.declared.kind.Door.TheVariants as door

@@ -1,4 +1,4 @@
--- The numbers that cross to C, as `hosts/c/pifnjarl_device.h` and `hosts/c/pifnjarl_handle.h` have them.
+-- The numbers that cross to C, as `c/pifnjarl_device.h` and `c/pifnjarl_handle.h` have them.
 use Rattle.std.specs.Prelude.{ℕ, ◌≡◌}
 use Rattle.zone_resources.specs.declared.admission.Limits.{Limits}
 use Rattle.image_text.specs.Fault.{load_number}

@@ -1,5 +1,5 @@
 //! What C calls. Each export hands the handle that lies in C's memory to a function that says what it does. What C owes stands
-//! in `hosts/c/pifnjarl_handle.h`; nothing checks it.
+//! in `c/pifnjarl_handle.h`; nothing checks it.
 
 ghost use Rattle.std.specs.Borrow.{sem};
 ghost use Rattle.std.specs.Ptr.{room_at};

@@ -1,4 +1,4 @@
-//! What C asks a handle for, by the numbers of `hosts/c/pifnjarl_handle.h`.
+//! What C asks a handle for, by the numbers of `c/pifnjarl_handle.h`.
 
 ghost use Rattle.std.specs.Prelude.{◌≡◌};
 ghost use Rattle.device_library.specs.Kinds.{door_of, kept_kind, loop_kind, memory_kind, nothing_of, target_kind};

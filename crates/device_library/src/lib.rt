@@ -1,6 +1,6 @@
 //! The device as a library for C: exports over a handle in memory that C brings. A handle has a device in memory, a device in a file, or a
 //! target over NVMe/TCP before either. The library opens no file: it hands C the calls for it, and gives what answers requests once C has
-//! told that all are done. `hosts/c/pifnjarl_handle.h` has the numbers, and what C owes.
+//! told that all are done. `c/pifnjarl_handle.h` has the numbers, and what C owes.
 #![tactic(auto)]
 
 mod asked;

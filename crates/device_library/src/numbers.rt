@@ -1,5 +1,5 @@
-//! The numbers that cross to C, beside those of an image's faults, which are 10 to 18, and those of `kind.rt`. `hosts/c/pifnjarl_device.h`
-//! or `hosts/c/pifnjarl_handle.h` has each under a name.
+//! The numbers that cross to C, beside those of an image's faults, which are 10 to 18, and those of `kind.rt`. `c/pifnjarl_device.h`
+//! or `c/pifnjarl_handle.h` has each under a name.
 
 /// The kind of event that submits an entry to a queue.
 pub const SUBMIT: usize = 1;

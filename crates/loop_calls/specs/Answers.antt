@@ -1,4 +1,4 @@
--- Answers by their numbers, as hosts/nvme_tcp/pifnjarl_loop.h has them.
+-- Answers by their numbers, as target/pifnjarl_loop.h has them.
 use Rattle.std.specs.Prelude.{ℕ, ◌==◌, ◌||◌, Bool, List, [], if◌then◌else◌, map, take}
 use Rattle.loop_calls.specs.Flags.{is_set, padded}
 use Rattle.loop_calls.specs.declared.asked.AnswerAsked.{AnswerAsked}

@@ -1,4 +1,4 @@
--- Operations by their numbers, as hosts/nvme_tcp/pifnjarl_loop.h has them.
+-- Operations by their numbers, as target/pifnjarl_loop.h has them.
 use Rattle.std.specs.Prelude.{ℕ, Bool, true, false, List, map, replicate}
 use Rattle.loop_calls.specs.Flags.{byte_of}
 use Rattle.loop_calls.specs.declared.head.OperationHead.{OperationHead}

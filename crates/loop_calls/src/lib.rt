@@ -1,4 +1,4 @@
-//! The loop of a target as C asks it: which operation is to be made, by numbers and bytes, and what came of it. `hosts/nvme_tcp` has the
+//! The loop of a target as C asks it: which operation is to be made, by numbers and bytes, and what came of it. `target` has the
 //! same numbers in `pifnjarl_loop.h`.
 #![tactic(auto)]
 
