@@ -64,7 +64,8 @@ All fields are printed where none is selected.
   34,3,69240,-157,nail
   37,4,92997,-165,cups
 
-Conditions of other forms: with parentheses, a field with a field, hexadecimal digits, bytes, a field without a name, and the argument.
+Conditions of other forms: with parentheses, a field with a field, hexadecimal digits, bytes, a field without a name, ranges and sets, and
+the argument.
 
   $ query --where '!(region == 3 || region == 1) && number <= 0x20' --select number,region > answer
   $ same 'select number, region from orders where not (region = 3 or region = 1) and number <= 32'
@@ -75,6 +76,8 @@ Conditions of other forms: with parentheses, a field with a field, hexadecimal d
   $ same 'select number, region from orders where number < region'
   $ query --where 'bytes@12 == 0x6c616d70 && u8@2 != 0' --select number,word > answer
   $ same "select number, word from orders where word = 'lamp' and region <> 0"
+  $ query --where 'bytes@12 == "lamp" && region in {1, 3, 4} && number in 10..=40' --select number,region,word > answer
+  $ same "select number, region, word from orders where word = 'lamp' and region in (1, 3, 4) and number between 10 and 40"
   $ query --where 'region == arg' --argument 2 --select number --blocks 2 > answer
   $ same 'select number from orders where region = 2 and number <= 32'
 
@@ -118,7 +121,7 @@ A text with a mark of lines stands between quotes, one that isn't UTF-8 in hexad
 How a question is understood, and what asking it takes.
 
   $ query --where 'region == 3 && !(price < 10)' --select price,number --explain
-  where: u8@2 == 3 && !u32@4 < 10
+  where: u8@2 == 3 && !(u32@4 < 10)
   records: 16 of 32 bytes in each block, from byte 0 on
   select: price u32 @4, number u16 @0
   program: 132 of 4096 slots, for 16 records of each block; it emits at most 160 bytes for a block (--emit 160)
@@ -219,7 +222,7 @@ The answer is kept in a zone of the image, in blocks as the device appends them,
 What isn't understood is refused, with the column and what is possible there.
 
   $ query --where 'region = 3'
-  --where, column 8: a comparison is expected: ==, !=, <, <=, > or >=
+  --where, column 8: a comparison is expected: ==, !=, <, <=, >, >= or in
     region = 3
            ^
   question refused
@@ -359,11 +362,11 @@ A layout is refused by its lowest wrong line, before the image is read.
   line 2 refused
   [3]
   $ of_layout 'records 64\na u33 @0'
-  wrong.layout, line 2: behind the name a field is expected, as in u32@8: before the @ a type is expected: u8, u16, u32, u64, i8, i16, i32 or i64, or with be behind it as in u32be
+  wrong.layout, line 2: after the name a field is expected, as in u32@8: before the @ a type is expected: u8, u16, u32, u64, i8, i16, i32 or i64, or with be after it as in u32be
   line 2 refused
   [3]
   $ of_layout 'records 64\na u32 0'
-  wrong.layout, line 2: behind the name a field is expected, as in u32@8: behind the @ an offset is expected: a decimal number from 0 to 65535
+  wrong.layout, line 2: after the name a field is expected, as in u32@8: after the @ an offset is expected: a decimal number from 0 to 65535
   line 2 refused
   [3]
   $ of_layout 'records 64\na u32 @0 @4'
@@ -371,11 +374,11 @@ A layout is refused by its lowest wrong line, before the image is read.
   line 2 refused
   [3]
   $ of_layout 'records 64\n0a u32 @0'
-  wrong.layout, line 2: a name is expected: letters, digits and _, no digit first, and neither arg nor in
+  wrong.layout, line 2: a name is expected: letters, digits and _, no digit first, and none of arg, bytes and in
   line 2 refused
   [3]
   $ of_layout 'records 64\narg u32 @0'
-  wrong.layout, line 2: a name is expected: letters, digits and _, no digit first, and neither arg nor in
+  wrong.layout, line 2: a name is expected: letters, digits and _, no digit first, and none of arg, bytes and in
   line 2 refused
   [3]
   $ of_layout 'records 64\na u32 @0\na u32 @4'
