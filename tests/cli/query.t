@@ -234,7 +234,7 @@ What isn't understood is refused, with the column and what is possible there.
   question refused
   [3]
   $ query --where 'word == 3'
-  --where, column 1: `word` is no number; its bytes are compared as in bytes@12 == 0x6162
+  --where, column 1: `word` is no number; its bytes are compared as in bytes@12 == "ab"
     word == 3
     ^
   question refused

@@ -59,9 +59,10 @@ The types are u8, u16, u32, u64, i8, i16, i32 and i64, with be after it where th
 how many there are, as in text8. Text is printed without the zeros and blanks after it, bytes in hexadecimal. Each place of a block is taken \
 as a record, also where only zeros are: the condition has to say which are there.
 
-A condition compares a field by ==, !=, <, <=, > or >= with a number, with `arg`, the run's argument, or with another field. && binds \
-closer than ||, ! takes what is next to it, and parentheses come before all. Numbers are decimal, or hexadecimal after 0x. A field \
-that has no name is written as u32@8; `bytes@8 == 0x6162` compares bytes.
+A condition compares a field by ==, !=, <, <=, > or >= with a number, with `arg`, the run's argument, or with another field. \
+`price in 100..200` leaves the second bound out, `price in 100..=200` has it, and `region in {1, 2}` names each number. && binds closer \
+than ||, ! takes what is next to it, and parentheses come before all. Numbers are decimal, or hexadecimal after 0x. A field that has no \
+name is written as u32@8; `bytes@8 == \"ab\"` and `bytes@8 == 0x6162` compare bytes.
 
 --count, --sum, --least and --greatest tally the records that match; a sum is modulo 2^64. Of no record there is no least and no greatest.
 

@@ -90,7 +90,7 @@ fn told_of_word(
         Some(found) => {
             let offset = found.kind.offset();
             format!(in alloc;
-                "--where, column {column}: `{name}` is no number; its bytes are compared as in bytes@{offset} == 0x6162"
+                "--where, column {column}: `{name}` is no number; its bytes are compared as in bytes@{offset} == \"ab\""
             )
         }
         None => format!(in alloc; "--where, {fault}"),
