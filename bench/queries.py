@@ -1,0 +1,165 @@
+#!/usr/bin/env python3
+"""Times a question of two comparisons over the records of a zone, beside numpy, sqlite3 and a filter that clang made of C.
+
+    bench/queries.py [ROUNDS]     5 rounds where none is given
+
+32,000 blocks of 4096 bytes have 64 records of 64 bytes each; `region == 3 && amount >= 50` holds of a hundredth of them, and 16 bytes of
+each of these are wanted. All are compared first. Times are the least of the rounds:
+
+- of `zscli query`, without what it takes to load the image (which the same question of one block shows), and the run of its program
+  alone, by `drain`, in a device of `zscli serve`;
+- of numpy over the same bytes in memory; of sqlite3 over a table of the same rows in memory; of the run of the filter in C;
+- of making a program of the question, without what starting the command takes.
+
+It wants numpy, clang and LLVM's tools, and some 600 MB in /dev/shm. ZSCLI names the program; else it is the one of this repository.
+"""
+
+import os
+import sqlite3
+import subprocess
+import sys
+import tempfile
+import time
+from pathlib import Path
+from typing import Callable, Dict, List
+
+import numpy
+
+TOP = Path(__file__).resolve().parent.parent
+sys.path.insert(0, str(TOP / "python"))
+import pifnjarl  # noqa: E402
+
+BLOCK, BLOCKS, IN_BLOCK = 4096, 32000, 64
+ZONE = 32768
+WHERE = "region == 3 && amount >= 50"
+LAYOUT = "records 64\norder bytes16 @0\nregion u32 @16\namount u32 @20\n"
+RECORD = numpy.dtype([("order", "V16"), ("region", "<u4"), ("amount", "<u4"), ("rest", "V40")])
+FILTER = """#include "pifnjarl.h"
+long query(const struct context *context, const u8 *block)
+{
+    #pragma unroll
+    for (int i = 0; i < 64; i++)
+        if (le32(block, 64 * i + 16) == 3 && le32(block, 64 * i + 20) >= 50)
+            emit(block + 64 * i, 16);
+    return 0;
+}
+"""
+
+
+def best(rounds: int, what: Callable[[], object]) -> float:
+    """The least of the times that a call takes, in seconds."""
+    times: List[float] = []
+    for _ in range(rounds):
+        begun = time.perf_counter()
+        what()
+        times.append(time.perf_counter() - begun)
+    return min(times)
+
+
+def records() -> "numpy.ndarray":
+    """The records, by numbers that come again with each launch."""
+    numbers = numpy.random.default_rng(93)
+    made = numpy.zeros(BLOCKS * IN_BLOCK, RECORD)
+    made["order"] = numpy.frombuffer(numbers.bytes(16 * len(made)), "V16")
+    made["region"] = numbers.integers(0, 50, len(made))
+    made["amount"] = numbers.integers(0, 100, len(made))
+    return made
+
+
+class Asked:
+    """A zone with the records, and the ways to ask of them."""
+
+    def __init__(self, folder: Path, rounds: int) -> None:
+        self.folder, self.rounds, self.zscli = folder, rounds, pifnjarl.zscli()
+        self.image, self.layout = folder / "zoned.img", folder / "layout"
+        self.rows = records()
+        self.layout.write_text(LAYOUT)
+        pifnjarl.format_image(self.image, block=BLOCK, zones=2, zone_size=ZONE)
+        with pifnjarl.Device(self.image) as device:
+            device.append(0, self.rows.tobytes())
+            device.save()
+
+    def query(self, *words: str) -> bytes:
+        """What `zscli query` prints."""
+        asks = [self.zscli, "query", str(self.image), "--zone", "0", "--layout", str(self.layout), "--where", WHERE, "--select", "order"]
+        return subprocess.run([*asks, *words], check=True, stdout=subprocess.PIPE).stdout
+
+    def run(self, program: Path, emit: int) -> float:
+        """The time of a run of a program over all blocks."""
+        with pifnjarl.Device(self.image) as device:
+            device.open(ZONE)
+            device.load(0, program, emit)
+
+            def once() -> None:
+                run = device.run(0, 0, BLOCKS, to=ZONE)
+                device.drain()
+                run.wait()
+                device.reset(ZONE)
+                device.open(ZONE)
+
+            return best(self.rounds, once)
+
+    def in_numpy(self) -> bytes:
+        """The answer by numpy."""
+        return bytes(self.rows["order"][(self.rows["region"] == 3) & (self.rows["amount"] >= 50)].tobytes())
+
+    def filter(self) -> Path:
+        """The program of the same filter in C."""
+        (self.folder / "query.c").write_text(FILTER)
+        make = ["make", "-s", "-f", str(TOP / "examples" / "Makefile"), f"FROM={self.folder}", f"TO={self.folder}", f"BLOCK={BLOCK}"]
+        subprocess.run([*make, f"ZSCLI={self.zscli}", str(self.folder / "query.bin")], check=True)
+        return self.folder / "query.bin"
+
+    def table(self) -> sqlite3.Connection:
+        """A table of the same rows in memory."""
+        table = sqlite3.connect(":memory:")
+        table.execute("create table records (name blob, region integer, amount integer)")
+        rows = zip((bytes(it) for it in self.rows["order"]), self.rows["region"].tolist(), self.rows["amount"].tolist())
+        table.executemany("insert into records values (?, ?, ?)", rows)
+        return table
+
+
+def compiled(asked: Asked) -> float:
+    """The time that a program of the question takes, beside a command that loads the same small image and asks nothing."""
+    small = asked.folder / "small.img"
+    pifnjarl.format_image(small, block=BLOCK, zones=2, zone_size=1)
+    with pifnjarl.Device(small) as device:
+        device.append(0, bytes(BLOCK))
+        device.save()
+    asks = [asked.zscli, "query", str(small), "--zone", "0", "--layout", str(asked.layout), "--where", WHERE, "--explain"]
+    rounds = 20 * asked.rounds
+    explained = best(rounds, lambda: subprocess.run(asks, check=True, stdout=subprocess.DEVNULL))
+    return explained - best(rounds, lambda: subprocess.run([asked.zscli, "report", str(small)], check=True, stdout=subprocess.DEVNULL))
+
+
+def main() -> int:
+    """Prints the times."""
+    rounds = int(sys.argv[1]) if len(sys.argv) > 1 else 5
+    with tempfile.TemporaryDirectory(dir="/dev/shm" if os.path.isdir("/dev/shm") else None) as name:
+        asked = Asked(Path(name), rounds)
+        table = asked.table()
+        select = "select name from records where region = 3 and amount >= 50"
+        wanted = asked.in_numpy()
+        if asked.query("--raw") != wanted or b"".join(it for it, in table.execute(select)) != wanted:
+            print("what is answered differs", file=sys.stderr)
+            return 1
+        program = asked.folder / "asked.bin"
+        asked.query("--program", str(program))
+        emit = 18 * IN_BLOCK
+        whole = best(rounds, lambda: asked.query("--raw"))
+        times: Dict[str, float] = {
+            "zscli query, without loading the image": whole - best(rounds, lambda: asked.query("--raw", "--blocks", "1")),
+            "the run of its program": asked.run(program, emit),
+            "the run of the filter in C": asked.run(asked.filter(), emit),
+            "numpy in memory": best(rounds, asked.in_numpy),
+            "sqlite3 in memory": best(rounds, lambda: table.execute(select).fetchall()),
+        }
+        print(f"{len(wanted) // 16} of {BLOCKS * IN_BLOCK} records in {BLOCKS} blocks; zscli query with loading: {whole * 1000:.0f} ms")
+        for name, seconds in times.items():
+            print(f"{name}: {seconds * 1000:.1f} ms, {seconds * 1e9 / BLOCKS:.0f} ns a block")
+        print(f"making the program: {compiled(asked) * 1000:.2f} ms")
+    return 0
+
+
+if __name__ == "__main__":
+    sys.exit(main())
