@@ -6,9 +6,9 @@
 32,000 blocks of 4096 bytes have 64 records of 64 bytes each; `region == 3 && amount >= 50` holds of a hundredth of them, and 16 bytes of
 each of these are wanted. All are compared first. Times are the least of the rounds:
 
-- of `zscli query`, without what it takes to load the image (which the same question of one block shows), and the run of its program
-  alone, by `drain`, in a device of `zscli serve`;
-- of numpy over the same bytes in memory; of sqlite3 over a table of the same rows in memory; of the run of the filter in C;
+- of `zscli query`, without what it takes to load the image, which the same question of one block shows;
+- of numpy over the same bytes in memory; of sqlite3 over a table of the same rows in memory;
+- of runs of its program and of the filter in C, in a device of `zscli serve`, beyond what a program takes there that does nothing;
 - of making a program of the question, without what starting the command takes.
 
 It wants numpy, clang and LLVM's tools, and some 600 MB in /dev/shm. ZSCLI names the program; else it is the one of this repository.
@@ -87,15 +87,14 @@ class Asked:
     def run(self, program: Path, emit: int) -> float:
         """The time of a run of a program over all blocks."""
         with pifnjarl.Device(self.image) as device:
-            device.open(ZONE)
             device.load(0, program, emit)
 
             def once() -> None:
+                device.open(ZONE)
                 run = device.run(0, 0, BLOCKS, to=ZONE)
                 device.drain()
                 run.wait()
                 device.reset(ZONE)
-                device.open(ZONE)
 
             return best(self.rounds, once)
 
@@ -143,14 +142,15 @@ def main() -> int:
         if asked.query("--raw") != wanted or b"".join(it for it, in table.execute(select)) != wanted:
             print("what is answered differs", file=sys.stderr)
             return 1
-        program = asked.folder / "asked.bin"
+        program, nothing = asked.folder / "asked.bin", asked.folder / "nothing.bin"
+        nothing.write_bytes(pifnjarl.EMITS_NOTHING)
         asked.query("--program", str(program))
         emit = 18 * IN_BLOCK
-        whole = best(rounds, lambda: asked.query("--raw"))
+        whole, served = best(rounds, lambda: asked.query("--raw")), asked.run(nothing, 0)
         times: Dict[str, float] = {
             "zscli query, without loading the image": whole - best(rounds, lambda: asked.query("--raw", "--blocks", "1")),
-            "the run of its program": asked.run(program, emit),
-            "the run of the filter in C": asked.run(asked.filter(), emit),
+            "a run of its program": asked.run(program, emit) - served,
+            "a run of the filter in C": asked.run(asked.filter(), emit) - served,
             "numpy in memory": best(rounds, asked.in_numpy),
             "sqlite3 in memory": best(rounds, lambda: table.execute(select).fetchall()),
         }

@@ -27,6 +27,7 @@ Help is printed to standard output.
   out:   report   Prints an image's geometry, limits and zones, or draws them
   out:   upgrade  Saves an image in the last version
   out:   exec     Runs the events of a command file on an image
+  out:   query    Asks which records of a zone meet a condition
   out:   serve    Does what standard input asks of an image, as it comes
   out:   fold     Makes of a journal's base and events a new base
   out:   asm      Assembles text to a program

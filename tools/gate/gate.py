@@ -141,18 +141,25 @@ def unproved(said: str) -> List[str]:
 
 
 def is_refused(change: Change, names: List[str]) -> bool:
-    """Is a function that the edit changes, or a part of it, among those that aren't proved?"""
-    changed = [(module, function.rpartition("::")[2]) for module, function in change.functions]
-    return any(f"::{module}::" in name and function in name.split("::") for module, function in changed for name in names)
+    """Is a function that the edit changes, or a part of it, among those that aren't proved? A method is named by the module of its type.
+
+    >>> is_refused(Change({}, {("turn", "advance")}), ["a::turn::advance"]), is_refused(Change({}, {("turn", "S::f")}), ["a::s::S::f"])
+    (True, True)
+    """
+    for module, function in change.functions:
+        parts = set(function.split("::"))
+        if any(parts <= set(name.split("::")) and (len(parts) > 1 or f"::{module}::" in name) for name in names):
+            return True
+    return False
 
 
 def only(changes: List[Change], by_module: bool) -> List[str]:
     """The words of `rattle check` for what is changed: the functions, or the modules that they are in.
 
-    >>> only([Change({}, {("turn", "advance")})], False), only([Change({}, {("turn", "advance")})], True)
-    (['--only', 'turn::advance'], ['--only', 'turn'])
+    >>> only([Change({}, {("turn", "advance"), ("turn", "S::f")})], False), only([Change({}, {("turn", "advance")})], True)
+    (['--only', 'S::f', '--only', 'turn::advance'], ['--only', 'turn'])
     """
-    names = {module if by_module else f"{module}::{name}" for it in changes for module, name in it.functions}
+    names = {module if by_module else name if "::" in name else f"{module}::{name}" for it in changes for module, name in it.functions}
     return [word for name in sorted(names) for word in ("--only", name)]
 
 
