@@ -2,7 +2,7 @@
 """Looks whether must-fail edits, and those of tests/faults/edits, can still be applied: the text of each `old:` stands exactly once in its
 file.
 
-    tools/gate/edits.py [CRATE..]  the edits of these crates, or of all; prints one line for each that can't be applied, and then ends with 1
+    edits.py [CRATE..]  the edits of these crates, or of all; prints one line for each that can't be applied, and then ends with 1
 """
 
 import sys

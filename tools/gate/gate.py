@@ -1,10 +1,10 @@
 #!/usr/bin/env python3
 """Proves every crate and its tests from nothing and tries the must-fail edits, by the gate of the kit, `rt ci`, at less cost.
 
-    tools/gate/gate.py                every crate, from nothing
-    KEPT=1 tools/gate/gate.py         every crate, but takes a library that tools/gate/proving.py or an earlier run proved of the same sources: for
-                               who mends what a run refused. A verdict on all is that of a run from nothing
-    tools/gate/gate.py edits CRATE..  the edits of these crates alone, with those of tests/faults/edits, over libraries that are proved first
+    gate.py                every crate, from nothing
+    KEPT=1 gate.py         every crate, but takes a library that proving.py or an earlier run proved of the same sources: for who mends
+                           what a run refused. A verdict on all is that of a run from nothing
+    gate.py edits CRATE..  the edits of these crates alone, with those of tests/faults/edits, over libraries that are proved first
 
 `rt ci` proves a crate once more for its edits. Here the edits of a crate are put into one copy of it, as far as they lie in
 different functions, and of that copy the functions that they change are checked alone, over the libraries that were just proved. Each
@@ -361,6 +361,8 @@ def edits_of(rt: ModuleType, names: List[str]) -> int:
 
 def main() -> int:
     """Does as `rt ci`, and gives its status."""
+    if sys.argv[1:2] not in ([], ["edits"]):
+        sys.exit(f"{sys.argv[1]} isn't known: it is gate.py, or gate.py edits CRATE..")
     found = shutil.which("rt")
     if not found:
         sys.exit("rt is not on the path")

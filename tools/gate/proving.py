@@ -1,13 +1,14 @@
 #!/usr/bin/env python3
 """Proves a program, or a static library, with the libraries below it, builds it, and shows on standard error how far it is.
 
-    tools/gate/proving.py [CRATE]   zscli, where none is named; on a terminal one line that moves, else a line for each crate
-    KEEP=1 tools/gate/proving.py    keeps what further checks want too (out/incremental, some 10 GB): `rt check` in a crate then begins there
-    tools/gate/proving.py --times   prints what each crate took when it was proved last, which tools/gate/times keeps for the estimate
+    proving.py [CRATE]   zscli, where none is named; on a terminal one line that moves, else a line for each crate
+    KEEP=1 proving.py    keeps what further checks want too (out/incremental, some 10 GB): `rt check` in a crate then begins there
+    proving.py --times   prints what each crate took when it was proved last, which the file times keeps for the estimate
 
 Each crate is proved once by `rattle build --statements`: of a proved library only what other crates can cite is kept, so that crates
 above it load little. The crate with the longest chain of others above it comes first, and a crate that few can run beside gets the
-cores that are free. What `rattle` prints goes to out/build.log of the crate that is named; where it fails, its end is shown, and the status is 1.
+cores that are free. What `rattle` prints goes to out/build.log of the crate that is named; where it fails, its end is shown, and the
+status is 1.
 Ctrl-C ends it: the crates that were proved by then stay so.
 """
 
@@ -28,11 +29,15 @@ from typing import Dict, Iterable, List, Optional, Set, Tuple
 TOP = Path(__file__).resolve().parents[2]
 
 
+def free_memory() -> int:
+    """The free memory, in units of 1024 bytes."""
+    with open("/proc/meminfo", encoding="ascii") as lines:
+        return next(int(line.split()[1]) for line in lines if line.startswith("MemAvailable:"))
+
+
 def processors() -> int:
     """How many crates are proved at a time: one a processor, each with 2 GB of free memory."""
-    with open("/proc/meminfo", encoding="ascii") as lines:
-        free = next(int(line.split()[1]) for line in lines if line.startswith("MemAvailable:"))
-    return max(1, min(len(os.sched_getaffinity(0)), free // 2_000_000))
+    return max(1, min(len(os.sched_getaffinity(0)), free_memory() // 2_000_000))
 
 
 class Crates:
@@ -316,7 +321,9 @@ class Proving:
         moves = sys.stderr.isatty()
         under_way: Dict["concurrent.futures.Future[bool]", str] = {}
         with concurrent.futures.ThreadPoolExecutor(self.lanes + 1) as pool:
-            beside = pool.submit(self.looks_well) if self.was_proved_before() else None
+            # a look at all sources takes 6 GB beside the proofs
+            has_room = free_memory() >= 14_000_000
+            beside = pool.submit(self.looks_well) if has_room and self.was_proved_before() else None
             try:
                 while len(self.done) < len(self.crates.names):
                     free = self.lanes - sum(jobs for jobs, _ in self.running.values())

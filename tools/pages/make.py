@@ -1,10 +1,10 @@
 #!/usr/bin/env python3
 """Makes reference pages from the sources, so that none is kept by hand.
 
-    tools/pages/make.py                writes docs/proved.md: the laws of each crate and its public contracts, each with the first paragraph of
-                                the comment above it
-    tools/pages/make.py --check        compares it with what is there, and ends with status 1 where it differs
-    tools/pages/make.py --definitions  prints the public definitions of each crate, in the order of its specs/Lib.antt, with the comments above them
+    make.py                writes docs/proved.md: the laws of each crate and its public contracts, each with the first paragraph of the
+                           comment above it
+    make.py --check        compares it with what is there, and ends with status 1 where it differs
+    make.py --definitions  prints the public definitions of each crate, in the order of its specs/Lib.antt, with the comments above them
 
 It reads the layout that `rt fmt` gives: items begin at the left, what is inside them four blanks further on.
 """

@@ -17,7 +17,5 @@ mod refused;
 mod rows;
 mod source;
 mod tallied;
-#[cfg(test)]
-mod tests;
 mod understood;
 mod wanted;

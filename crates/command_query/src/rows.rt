@@ -115,12 +115,6 @@ impl Printed {
         self.bytes.clear();
         Ok(())
     }
-
-    /// What is to be printed.
-    #[cfg(test)]
-    pub(crate) fn bytes(&self) -> &[u8] {
-        self.bytes.as_slice()
-    }
 }
 
 /// Adds a text.
