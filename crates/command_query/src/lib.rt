@@ -6,6 +6,7 @@ mod answering;
 mod cells;
 mod columns;
 mod commands;
+mod compiled;
 mod destination;
 mod explained;
 mod layout;
@@ -19,5 +20,6 @@ mod source;
 mod tallied;
 #[cfg(test)]
 mod tests;
+mod told;
 mod understood;
 mod wanted;
