@@ -79,7 +79,9 @@ class Column(NamedTuple):
     offset: int
 
 
-def layout_of(fields: Layout, *, size: Optional[int] = None, first: int = 0, count: Optional[int] = None) -> str:
+def layout_of(
+    fields: Union[Mapping[str, Tuple[str, int]], Any], *, size: Optional[int] = None, first: int = 0, count: Optional[int] = None
+) -> str:
     """The text of a layout file, of a dict or a dtype. A record has `size` bytes: without it as many as the dtype, or as the fields
     of the dict take. `first` bytes of a block come before its first record, and `count` records are in a block: without it as many as fit.
 
