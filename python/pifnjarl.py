@@ -1208,7 +1208,7 @@ class Device:
         Empty zone, the first or the one that `into` names, which is reset at the end.
 
         >>> with example() as device:
-        ...     first = device.append(0, b"\x02lamps".ljust(512, b"\0") + b"\x01desk".ljust(512, b"\0"))
+        ...     first = device.append(0, b"\\x02lamps".ljust(512, b"\\0") + b"\\x01desk".ljust(512, b"\\0"))
         ...     device.query(0, {"amount": ("u8", 0), "what": ("text8", 1)}, "amount > 1")
         [Row(amount=2, what='lamps')]
         """
