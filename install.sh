@@ -11,7 +11,7 @@
 # options of their own:
 #
 #   --libdir FOLDER       the library and pkgconfig/pifnjarl.pc, by default DIR/lib
-#   --pythondir FOLDER    the Python module, by default the first folder below DIR/lib where python3 looks for modules, or, if there is
+#   --pythondir FOLDER    the Python modules, by default the first folder below DIR/lib where python3 looks for modules, or, if there is
 #                         none or with DESTDIR, DIR/lib/python3/dist-packages
 #   --zshdir FOLDER       the completion for zsh, by default DIR/share/zsh/site-functions
 #
@@ -111,6 +111,7 @@ tree() {
     "$1" 644 "$top/docs/zscli.zsh" "$zsh/_zscli"
     "$1" 644 "$top/docs/zscli.fish" "$prefix/share/fish/vendor_completions.d/zscli.fish"
     "$1" 644 "$top/python/pifnjarl.py" "$python/pifnjarl.py"
+    "$1" 644 "$top/python/pifnjarl_query.py" "$python/pifnjarl_query.py"
     "$1" 644 "$top/target/pifnjarl-nvme-tcp@.service.in" "$prefix/lib/systemd/system/pifnjarl-nvme-tcp@.service"
     "$1" 644 "$top/target/pifnjarl.sysusers" "$prefix/lib/sysusers.d/pifnjarl.conf"
     "$1" 644 "$top/target/pifnjarl.tmpfiles" "$prefix/lib/tmpfiles.d/pifnjarl.conf"

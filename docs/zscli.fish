@@ -62,6 +62,7 @@ complete -c zscli -n '__zscli_begins exec' -l stop -d 'End at the first refused 
 complete -c zscli -n '__zscli_begins exec' -l words -d 'Print in words what each line tells, as `explain --commands` does'
 complete -c zscli -n '__zscli_begins exec' -l help -d 'Print help'
 complete -c zscli -n '__zscli_begins query' -F
+complete -c zscli -n '__zscli_begins query' -l block -x -d 'In place of an image, with --explain or --program'
 complete -c zscli -n '__zscli_begins query' -l zone -x -d 'The zone whose records are asked about'
 complete -c zscli -n '__zscli_begins query' -l blocks -x -d 'Ask about the zone'\''s first N blocks alone [default'
 complete -c zscli -n '__zscli_begins query' -l layout -r -F -d 'The layout of the records'
@@ -78,6 +79,7 @@ complete -c zscli -n '__zscli_begins query' -l raw -d 'Print the bytes of the re
 complete -c zscli -n '__zscli_begins query' -l into -x -d 'Keep the records that match in this zone of the image, as the device appends them'
 complete -c zscli -n '__zscli_begins query' -l explain -d 'Print how the question is understood, and what asking it takes'
 complete -c zscli -n '__zscli_begins query' -l program -r -F -d 'Write the program that asks the question'
+complete -c zscli -n '__zscli_begins query' -l part -x -d 'Of several programs, write this one, from 0 on'
 complete -c zscli -n '__zscli_begins query' -l help -d 'Print help'
 complete -c zscli -n '__zscli_begins serve' -F
 complete -c zscli -n '__zscli_begins serve' -l frames -d 'Takes requests and gives answers as frames of bytes, not as lines'

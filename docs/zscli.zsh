@@ -105,7 +105,8 @@ _zscli_exec() {
 
 _zscli_query() {
     _arguments \
-        ':IMAGE:_files' \
+        '::IMAGE:_files' \
+        '--block[In place of an image, with --explain or --program]:B: ' \
         '--zone[The zone whose records are asked about]:Z: ' \
         '--blocks[Ask about the zone'\''s first N blocks alone \[default]:N: ' \
         '--layout[The layout of the records]:FILE:_files' \
@@ -122,6 +123,7 @@ _zscli_query() {
         '--into[Keep the records that match in this zone of the image, as the device appends them]:ZONE: ' \
         '--explain[Print how the question is understood, and what asking it takes]' \
         '--program[Write the program that asks the question]:FILE:_files' \
+        '--part[Of several programs, write this one, from 0 on]:N: ' \
         '(- *)--help[Print help]'
 }
 

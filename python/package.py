@@ -1,10 +1,10 @@
-"""Makes the packages of pifnjarl.py that `pip` asks for (PEP 517), with the standard library alone: neither a network nor setuptools is
-needed. pyproject.toml has what they say.
+"""Makes the packages of pifnjarl.py and pifnjarl_query.py that `pip` asks for (PEP 517), with the standard library alone: neither a
+network nor setuptools is needed. pyproject.toml has what they say.
 
     >>> with tempfile.TemporaryDirectory() as folder:
     ...     name = build_wheel(folder)
-    ...     name, zipfile.ZipFile(Path(folder) / name).namelist()[0]
-    ('pifnjarl-0.1.0-py3-none-any.whl', 'pifnjarl.py')
+    ...     name, zipfile.ZipFile(Path(folder) / name).namelist()[:2]
+    ('pifnjarl-0.1.0-py3-none-any.whl', ['pifnjarl.py', 'pifnjarl_query.py'])
 """
 
 import base64
@@ -18,7 +18,8 @@ from pathlib import Path
 from typing import Dict, Optional
 
 HERE = Path(__file__).resolve().parent
-SOURCES = ["pyproject.toml", "package.py", "pifnjarl.py"]
+MODULES = ["pifnjarl.py", "pifnjarl_query.py"]
+SOURCES = ["pyproject.toml", "package.py", *MODULES]
 Settings = Optional[Dict[str, object]]
 
 
@@ -57,7 +58,7 @@ def build_wheel(wheel_directory: str, config_settings: Settings = None, metadata
     stem = f"{project()['name']}-{project()['version']}"
     info = f"{stem}.dist-info"
     files = {
-        "pifnjarl.py": (HERE / "pifnjarl.py").read_bytes(),
+        **{name: (HERE / name).read_bytes() for name in MODULES},
         f"{info}/METADATA": metadata().encode(),
         f"{info}/WHEEL": b"Wheel-Version: 1.0\nGenerator: package.py\nRoot-Is-Purelib: true\nTag: py3-none-any\n",
     }

@@ -28,6 +28,9 @@ handle, whose `wait` gives what the command came to.
     ...     [append.wait() for append in appends]
     [16, 17, 18]
 
+Questions about the records of a zone are asked with `query`, and of several devices with `query_all`; they need pifnjarl_query.py
+beside this file.
+
 The image is saved by `save`, and where the device ends: by `shut`, or after `with`, whatever exception leaves it, or where the device
 is dropped. With `durable=True` a
 method returns when what it did is on the disk: after a crash the device that is opened again has it, with its programs, results and
@@ -51,7 +54,8 @@ from collections import deque
 from contextlib import contextmanager, suppress
 from enum import Enum, IntEnum
 from pathlib import Path
-from typing import Callable, ClassVar, Deque, Dict, Generic, Iterator, List, NamedTuple, Optional, Tuple, Type, TypeVar, Union
+from typing import Any, Callable, ClassVar, Deque, Dict, Generic, Iterator, List, NamedTuple, Optional, Sequence, Tuple, Type, TypeVar
+from typing import Union
 
 FilePath = Union[str, "os.PathLike[str]"]
 
@@ -913,11 +917,14 @@ class Device:
         # of each slot the notes of its program, if there are any, and the run that ended last
         self._loaded: Dict[int, Optional[_Notes]] = {}
         self._ended: Dict[int, Run] = {}
+        # the slots that questions took, with what they loaded there
+        self._question_slots: Dict[int, object] = {}
         # the requests that aren't answered yet, and the refused commands that nobody has waited for
         self._under_way: Deque[_Asked] = deque()
         self._unseen: List[_Asked] = []
         durably = ["--durable"] if durable else []
-        self._stream = _Stream([zscli(program), "serve", os.fspath(image), "--frames", *durably])
+        self._zscli = zscli(program)
+        self._stream = _Stream([self._zscli, "serve", os.fspath(image), "--frames", *durably])
         weakref.finalize(self, _end_left, self._stream)
         try:
             # what answers this says that the image is loaded; no run is left whose identifier a command could get
@@ -1134,6 +1141,7 @@ class Device:
             program = data
         self._do(_Opcode.LOAD, slot | emit << 32, len(program), data=program)
         self._loaded[slot] = notes
+        self._question_slots.pop(slot, None)
 
     def run(self, slot: int, lba: int, blocks: int, to: int, argument: int = 0) -> Run:
         """Run: starts the program of a slot over written blocks from an LBA on, into an open zone. A run that isn't waited for
@@ -1172,6 +1180,53 @@ class Device:
         0
         """
         return self._answer_of(self._ask(_Asked(drains=True), _Request.DRAIN, number=turns)).turns
+
+    # ---- questions
+
+    def query(
+        self,
+        zone: int,
+        layout: Any,
+        where: str,
+        *,
+        select: Optional[Sequence[str]] = None,
+        count: bool = False,
+        sum: Optional[str] = None,
+        least: Optional[str] = None,
+        greatest: Optional[str] = None,
+        numpy: bool = False,
+        blocks: Optional[int] = None,
+        argument: int = 0,
+        into: Optional[int] = None,
+    ) -> Any:
+        """Asks which records of a zone's written blocks, or of its first so many, meet a condition, by programs on the device that
+        `zscli query` makes; pifnjarl_query.py says what that takes of it.
+
+        The layout is the text of a layout file, its path, a dict with the type and the offset of each name, or a dtype of numpy. The answer
+        is a list with a named tuple for each record, of the selected fields, or of all; where the layout is a dtype, or with
+        `numpy`, it is an array. With `count`, `sum`, `least` or `greatest` it is one `Tallies` of the records. What is appended goes to an
+        Empty zone, the first or the one that `into` names, which is reset at the end.
+
+        >>> with example() as device:
+        ...     first = device.append(0, b"\\x02lamps".ljust(512, b"\\0") + b"\\x01desk".ljust(512, b"\\0"))
+        ...     device.query(0, {"amount": ("u8", 0), "what": ("text8", 1)}, "amount > 1")
+        [Row(amount=2, what='lamps')]
+        """
+        from pifnjarl_query import Question
+
+        question = Question(
+            layout,
+            where,
+            block=self.geometry.block,
+            select=select,
+            count=count,
+            sum=sum,
+            least=least,
+            greatest=greatest,
+            numpy=numpy,
+            program=self._zscli,
+        )
+        return question.ask(self, zone, blocks=blocks, argument=argument, into=into)
 
     # ---- the image
 
@@ -1331,6 +1386,14 @@ class Device:
         if guard is None or guard.slot != slot:
             return None
         return GuardEnded(guard.place, guard.text, block, slot, result)
+
+
+def query_all(devices: Sequence[Device], zone: Union[int, Sequence[int]], layout: Any, where: str, **words: Any) -> Any:
+    """Asks several devices one question side by side, in calls of the executor that the word `executor` gives: `query_all` of
+    pifnjarl_query.py, which says more."""
+    from pifnjarl_query import query_all as ask_all
+
+    return ask_all(devices, zone, layout, where, **words)
 
 
 # ---- examples

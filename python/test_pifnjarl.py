@@ -28,6 +28,7 @@ import pifnjarl
 import scan
 import store
 import test_page
+import test_query
 
 
 def order(number: int, region: int, text: str) -> bytes:
@@ -803,8 +804,9 @@ class Examples(Over):
 
 
 def load_tests(loader: unittest.TestLoader, tests: unittest.TestSuite, pattern: object) -> unittest.TestSuite:
-    """The examples of docstrings are tests too, and so is what is tested of the page."""
-    tests.addTests(loader.loadTestsFromModule(test_page))
+    """The examples of docstrings are tests too, and so is what is tested of the page and of questions."""
+    for others in (test_page, test_query):
+        tests.addTests(loader.loadTestsFromModule(others))
     for module in (pifnjarl, store):
         tests.addTests(doctest.DocTestSuite(module))
     return tests

@@ -171,6 +171,91 @@ The program of a question for a device of one's own.
   $ zscli exec own.img own.cmd --words | tail -n 1
   queue 1, command 3: run of slot 0 over 4 blocks from LBA 0 on, to the zone of LBA 64: 5 records in 1 block
 
+Of several programs one is named. Each is loaded into a slot of its own.
+
+  $ whole --where 'price > 90000' --program none.bin
+  --program: the question takes 2 programs; name one by --part, from 0 to 1, or select fewer bytes, or give the layout a `count` of fewer records
+  question refused
+  [3]
+  $ whole --where 'price > 90000' --program first.bin --part 0
+  entry load --slot 0 --program first.bin --emit 272
+  $ whole --where 'price > 90000' --program second.bin --part 1
+  entry load --slot 1 --program second.bin --emit 272
+  $ whole --where 'price > 90000' --program none.bin --part 2
+  --part 2: the question has programs 0 to 1
+  question refused
+  [3]
+  $ whole --where 'price > 90000' --program none.bin --part second
+  --part: 'second' is not a number from 0 to 4294967295
+  [2]
+  $ test -e none.bin
+  [1]
+  $ cat first.bin second.bin | cksum | cut -d ' ' -f 2
+  832
+
+Without an image, for blocks of so many bytes: how the question is understood, and its program.
+
+  $ of_blocks() { zscli query --layout orders.layout --where 'region == 3 && price > 60000' --select number "$@"; }
+  $ of_blocks --block 512 --explain
+  where: u8@2 == 3 && u32@4 > 60000
+  records: 16 of 32 bytes in each block, from byte 0 on
+  select: number u16 @0
+  program: 132 of 4096 slots, for 16 records of each block; it emits at most 64 bytes for a block (--emit 64)
+  $ of_blocks --block 512 --program same.bin
+  entry load --slot 0 --program same.bin --emit 64
+  $ cmp same.bin picked.bin
+  $ of_blocks --block 512 --program same.bin --part 0
+  entry load --slot 0 --program same.bin --emit 64
+  $ cmp same.bin picked.bin
+  $ zscli query --block 4096 --layout orders.layout --where 'region == arg' --count --sum price --explain
+  where: u8@2 == arg
+  records: 128 of 32 bytes in each block, from byte 0 on
+  tally: count, sum(price)
+  program: 1284 of 4096 slots, for 128 records of each block; it emits at most 0 bytes for a block (--emit 0)
+  $ zscli query --block 512 --layout whole.layout --where 'price > 90000' --program third.bin --part 1
+  entry load --slot 1 --program third.bin --emit 272
+  $ cmp second.bin third.bin
+
+There is no answer without an image, and no image without a zone.
+
+  $ of_blocks --block 512
+  without an image no records are asked about; name one and its --zone, or ask for --explain or --program
+  question refused
+  [3]
+  $ of_blocks --block 500 --explain
+  a block of 500 bytes: the block size is no power of 2 from 512 to 16384
+  geometry refused 1
+  [3]
+  $ of_blocks --explain
+  error: the following required arguments were not provided:
+    <IMAGE|--block <B>>
+  
+  Usage: zscli query --layout <FILE> --where <CONDITION> --select <FIELDS> --explain <IMAGE|--block <B>>
+  
+  For more information, try '--help'.
+  [2]
+  $ of_blocks --explain orders.img
+  error: the following required arguments were not provided:
+    --zone <Z>
+  
+  Usage: zscli query --layout <FILE> --where <CONDITION> --zone <Z> --select <FIELDS> --explain <IMAGE|--block <B>>
+  
+  For more information, try '--help'.
+  [2]
+  $ of_blocks --explain orders.img --zone 0 --block 512
+  error: the argument '[IMAGE]' cannot be used with '--block <B>'
+  
+  Usage: zscli query --layout <FILE> --where <CONDITION> --zone <Z> --select <FIELDS> --explain <IMAGE|--block <B>>
+  
+  For more information, try '--help'.
+  [2]
+  $ of_blocks --block 512 --explain --zone 0 2>&1 | head -n 2
+  error: the following required arguments were not provided:
+    <IMAGE>
+  $ of_blocks --block 512 --explain --part 0 2>&1 | head -n 2
+  error: the following required arguments were not provided:
+    --program <FILE>
+
 A journal is asked as an image is, and the file stays as it is.
 
   $ cp orders.img journal
@@ -400,6 +485,6 @@ A layout is refused by its lowest wrong line, before the image is read.
   [1]
   $ printf 'records 600\n' > wide.layout
   $ zscli query orders.img --zone 0 --layout wide.layout --where 'u8@0 == 3' --count
-  the layout's records end at byte 600 of a block, and a block of this image has 512; at most 0 fit
+  the layout's records end at byte 600 of a block, and a block has 512 bytes; at most 0 fit
   question refused
   [3]

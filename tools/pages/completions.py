@@ -101,7 +101,7 @@ def specification(arg: Arg) -> str:
     """An argument or an option, as `_arguments` has it."""
     about = escaped(first_sentence(arg.help))
     if arg.long is None:
-        return in_quotes(f":{escaped(arg.id)}:{takes(arg)}")
+        return in_quotes(f"{':' if arg.required else '::'}{escaped(arg.id)}:{takes(arg)}")
     value = "" if arg.flag else f":{escaped(arg.value or arg.id)}:{takes(arg)}"
     return " ".join(in_quotes(f"{name}[{about}]{value}") for name in ([f"-{arg.short}"] if arg.short else []) + [f"--{arg.long}"])
 

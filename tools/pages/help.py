@@ -186,7 +186,7 @@ def argument_of(told: Value) -> Arg:
     made.short = text(short.values[0]) if short.values else None
     made.required = takes.name in ("Place", "Required")
     made.flag = takes.name.startswith("Nothing")
-    if takes.name in ("Required", "Optional", "Default", "OneOf"):
+    if takes.name in ("Required", "Optional", "OptionalWith", "Default", "OneOf"):
         made.value = text(takes.values[0])
     if takes.name in ("Default", "OneOf"):
         made.default = text(takes.values[1])

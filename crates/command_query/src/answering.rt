@@ -2,6 +2,7 @@
 
 use crate::columns::Column;
 use crate::commands::AskedDevice;
+use crate::compiled::CompiledQuestion;
 use crate::parts::Part;
 use crate::records::push_rows;
 use crate::refused::refused;
@@ -13,7 +14,6 @@ use command_files::{Failure, printed};
 use emit_append::blocks_needed;
 use nvme_entry::{BlockCount, MOST_BLOCKS, MOST_TRANSFER, PROGRAM_SLOTS, ProgramSlot, RunCommand};
 use program_interface::BlockSize;
-use record_questions::Question;
 use std::alloc::{AllocError, Global};
 use std::io::Write;
 use zone_state::{Action, ZoneState};
@@ -21,20 +21,12 @@ use zone_state::{Action, ZoneState};
 /// How a question is asked.
 #[derive(Drop)]
 pub(crate) struct Plan {
-    /// The size of a block.
-    pub(crate) block: BlockSize,
+    /// The question, and its programs.
+    pub(crate) compiled: CompiledQuestion,
     /// The blocks that are asked about.
     pub(crate) source: SourceBlocks,
     /// The argument of each run.
     pub(crate) argument: u32,
-    /// What is printed.
-    pub(crate) wanted: Wanted,
-    /// The question, over the records of the last program.
-    pub(crate) question: Question,
-    /// How many records of a block it is about.
-    pub(crate) records: u16,
-    /// The programs.
-    pub(crate) parts: Vec<Part>,
     /// The zone that is appended to.
     pub(crate) destination: u32,
     /// The address of its first block.
@@ -92,7 +84,7 @@ impl Plan {
 
     /// How many runs there are.
     pub(crate) fn runs(&self) -> u64 {
-        u64::from(self.times()).saturating_mul(self.parts.len() as u64)
+        u64::from(self.times()).saturating_mul(self.compiled.parts.len() as u64)
     }
 }
 
@@ -111,7 +103,7 @@ pub(crate) fn answer<'a, O: Write>(
     open(alloc, asked, plan)?;
     load_all(alloc, asked, plan)?;
     let mut printing = Printed::new(alloc, form);
-    match &plan.wanted {
+    match &plan.compiled.wanted {
         Wanted::Rows(columns) => {
             answer_rows(alloc, asked, plan, columns.as_slice(), &mut printing, out)?;
         }
@@ -133,7 +125,7 @@ fn open<'a>(alloc: Global, asked: &mut AskedDevice, plan: &Plan) -> Result<(), F
 
 /// Loads the programs, each into a slot.
 fn load_all<'a>(alloc: Global, asked: &mut AskedDevice, plan: &Plan) -> Result<(), Failure<'a>> {
-    for (index, part) in plan.parts.iter().enumerate() {
+    for (index, part) in plan.compiled.parts.iter().enumerate() {
         let limit = part.sizes.limit();
         asked.load(alloc, slot_of(index), limit, part.program.as_slice())?;
     }
@@ -169,7 +161,7 @@ fn answer_rows<'a, O: Write>(
     let mut bytes = Vec::new(alloc);
     for time in 0..plan.times() {
         let stretch = plan.stretch(time);
-        for index in 0..plan.parts.len() {
+        for index in 0..plan.compiled.parts.len() {
             read_answer(alloc, asked, plan, index, stretch, &mut bytes)?;
             push_rows(columns, plan, bytes.as_slice(), printing)?;
             printed(printing.print(out))?;
@@ -196,7 +188,7 @@ fn read_answer<'a>(
     bytes: &mut Vec<u8>,
 ) -> Result<(), Failure<'a>> {
     bytes.clear();
-    let needed = match plan.parts.get(index) {
+    let needed = match plan.compiled.parts.get(index) {
         Some(part) => blocks_needed(stretch.blocks, part.sizes),
         None => 0,
     };
@@ -204,7 +196,7 @@ fn read_answer<'a>(
     let written = asked.written(plan.destination);
     let begin = plan.destination_lba.saturating_add(u64::from(written));
     let appended = run(alloc, asked, plan, index, stretch)?;
-    read_back(alloc, asked, plan.block, begin, appended, bytes)
+    read_back(alloc, asked, plan.compiled.block, begin, appended, bytes)
 }
 
 /// Adds the bytes of so many blocks from an address on.

@@ -2,6 +2,7 @@
 
 use crate::answering::Plan;
 use crate::columns::{Column, push_type};
+use crate::compiled::CompiledQuestion;
 use crate::layout::RecordLayout;
 use crate::wanted::Wanted;
 use command_files::Counted;
@@ -10,25 +11,25 @@ use program_interface::MOST_SLOTS;
 use question_words::text_of;
 use std::alloc::{AllocError, Global};
 
-/// The question in full, the programs that ask it, and the room and the runs that it takes.
+/// The question in full, and the programs that ask it.
 pub(crate) fn explained(
     alloc: Global,
     layout: &RecordLayout,
-    plan: &Plan,
+    compiled: &CompiledQuestion,
 ) -> Result<String, AllocError> {
     let mut text = String::new(alloc);
-    let condition = text_of(alloc, &plan.question.wanted)?;
+    let condition = text_of(alloc, &compiled.question.wanted)?;
     writeln!(text, "where: {}", condition.as_str())?;
     let shape = layout.shape;
     let first = shape.first;
     let size = shape.size;
-    let records = plan.records;
+    let records = compiled.records;
     writeln!(
         text,
         "records: {records} of {size} bytes in each block, from byte {first} on"
     )?;
-    push_wanted(&plan.wanted, &mut text)?;
-    for part in &plan.parts {
+    push_wanted(&compiled.wanted, &mut text)?;
+    for part in &compiled.parts {
         let slots = part.slots;
         let limit = part.sizes.limit();
         let records = Counted(u64::from(part.records), "record");
@@ -37,7 +38,6 @@ pub(crate) fn explained(
             "program: {slots} of {MOST_SLOTS} slots, for {records} of each block; it emits at most {limit} bytes for a block (--emit {limit})"
         )?;
     }
-    push_work(plan, &mut text)?;
     Ok(text)
 }
 
@@ -71,13 +71,13 @@ fn push_column(column: &Column, text: &mut String) -> Result<(), AllocError> {
     write!(text, " @{offset}")
 }
 
-/// Adds what asking takes.
-fn push_work(plan: &Plan, text: &mut String) -> Result<(), AllocError> {
+/// Adds the room and the runs that asking takes.
+pub(crate) fn push_work(plan: &Plan, text: &mut String) -> Result<(), AllocError> {
     let blocks = Counted(u64::from(plan.source.blocks), "block");
     let zone = plan.source.zone;
     writeln!(text, "source: {blocks} of zone {zone}")?;
     let mut room: u64 = 0;
-    for part in &plan.parts {
+    for part in &plan.compiled.parts {
         room = room.saturating_add(u64::from(blocks_needed(plan.source.blocks, part.sizes)));
     }
     let room = Counted(room, "block");

@@ -1,24 +1,28 @@
 //! The command `query`: a question about the records of a zone.
 
 ghost use Rattle.std.specs.Prelude.{◌≡◌, [], OnErr, OnOk};
+ghost use Rattle.command_files.specs.Arguments.{value_of};
 ghost use Rattle.command_files.specs.Made.{KeepsOthers, MakesAtMost, MakesAtMostOne};
 ghost use Rattle.command_images.specs.Images.{image_of};
 ghost use Rattle.command_query.specs.Files.{AsksNoFile, program_file};
 
 use crate::answering::{Plan, answer, blocks_of_run};
 use crate::commands::AskedDevice;
+use crate::compiled::compile_question;
 use crate::destination::{INTO, destination_for};
-use crate::explained::explained;
+use crate::explained::{explained, push_work};
 use crate::layout::{RecordLayout, load};
-use crate::parts::{Part, parts_of};
 use crate::refused::refused;
 use crate::rows::Form;
 use crate::source::{BLOCKS, ZONE, first_of, source_asked};
-use crate::understood::{WHERE, question_asked};
+use crate::told::{
+    EXPLAIN, PART, PROGRAM, is_explained, is_only_told, tell_of_blocks, write_program,
+};
+use crate::understood::WHERE;
 use crate::wanted::{COUNT, GREATEST, LEAST, SELECT, SUM, Wanted, wanted_of};
 use clap::ArgMatches;
-use command_files::arguments::{ARGUMENT_OPTION, RUN_ARGUMENT, number, required};
-use command_files::{Counted, Failure, Files, Shown, printed, write};
+use command_files::arguments::{ARGUMENT_OPTION, BLOCK_OPTION, RUN_ARGUMENT, number, required};
+use command_files::{Counted, Failure, Files, printed};
 use command_images::device_file;
 use command_images::image_file::{self, IMAGE};
 use command_words::{Argument, Takes, Words};
@@ -37,10 +41,6 @@ const CSV: &str = "csv";
 const JSON: &str = "json";
 
 const RAW: &str = "raw";
-
-const EXPLAIN: &str = "explain";
-
-const PROGRAM: &str = "program";
 
 const LONG_ABOUT: &str = "\
 Asks which records of a zone's blocks meet a condition, and prints a row of each, or tallies of them all. The question becomes a program; \
@@ -71,7 +71,8 @@ objects; with --raw as bytes, from the first field that is selected to the end o
 
 With --explain nothing is asked: it prints how the question is understood, how many slots its program has, how many bytes that emits for a \
 block at most, how many blocks of the free zone are needed if all records match, and how many runs there are. With --program FILE \
-nothing is asked either: the program is written, and the words are printed that load it.
+nothing is asked either: the program is written, and the words are printed that load it; of several, --part says which. Neither needs an \
+image: --block B in its place is for any blocks of so many bytes.
 
 With --into ZONE the records that match stay in this zone of the image, in blocks as the device appends them, which `zscli unpack` reads; \
 the rows are printed, and then the image is saved. The zone needs the room that all records would take if all matched. Where the question \
@@ -95,21 +96,28 @@ pub static WORDS: Words = Words {
             id: IMAGE,
             long: "",
             short: None,
-            takes: Takes::Place,
+            takes: Takes::PlaceWith(ZONE),
             help: "The image",
+        },
+        Argument {
+            id: BLOCK_OPTION,
+            long: BLOCK_OPTION,
+            short: None,
+            takes: Takes::Optional("B"),
+            help: "In place of an image, with --explain or --program: bytes of a block, a power of 2 from 512 to 16384",
         },
         Argument {
             id: ZONE,
             long: ZONE,
             short: None,
-            takes: Takes::Required("Z"),
+            takes: Takes::OptionalWith("Z", IMAGE),
             help: "The zone whose records are asked about",
         },
         Argument {
             id: BLOCKS,
             long: BLOCKS,
             short: None,
-            takes: Takes::Optional("N"),
+            takes: Takes::OptionalWith("N", IMAGE),
             help: "Ask about the zone's first N blocks alone [default: all that are written]",
         },
         Argument {
@@ -187,7 +195,7 @@ pub static WORDS: Words = Words {
             id: INTO,
             long: INTO,
             short: None,
-            takes: Takes::Optional("ZONE"),
+            takes: Takes::OptionalWith("ZONE", IMAGE),
             help: "Keep the records that match in this zone of the image, as the device appends them",
         },
         Argument {
@@ -204,13 +212,20 @@ pub static WORDS: Words = Words {
             takes: Takes::Optional("FILE"),
             help: "Write the program that asks the question",
         },
+        Argument {
+            id: PART,
+            long: PART,
+            short: None,
+            takes: Takes::OptionalWith("N", PROGRAM),
+            help: "Of several programs, write this one, from 0 on",
+        },
     ],
-    one_of: &[],
+    one_of: &[IMAGE, BLOCK_OPTION],
 };
 
-/// Asks the question that the words ask of the device that the image file stands for, in memory, and prints the answer. Where its program
-/// is wanted, or a zone is to keep the answer, it makes at most one file; else it makes none, and each file has the bytes that it had.
-/// What is noted goes to `err`; where this fails, nothing does.
+/// Asks the question that the words ask of the device that the image file stands for, in memory, and prints the answer. Where a program of
+/// it is wanted, or a zone is to keep the answer, it makes at most one file, without such a zone that of the program; else it makes none,
+/// and each file has the bytes that it had. What is noted goes to `err`; where this fails, nothing does.
 ///
 /// # Errors
 ///
@@ -225,6 +240,7 @@ pub fn query<'a, F: Files, O: Write, E: Write>(
     err: &mut E,
 ) -> Result<(), Failure<'a>>
     ensures one { MakesAtMostOne (F.made files.old) (F.made files.new) }
+    ensures program { value_of matches.now INTO.now ≡ [] → MakesAtMost (program_file matches.now) (F.made files.old) (F.made files.new) }
     ensures unmade { AsksNoFile matches.now → F.made files.new ≡ F.made files.old }
     ensures unchanged { AsksNoFile matches.now → F.contents files.new ≡ F.contents files.old }
     ensures kept { OnErr result (F.made files.new ≡ F.made files.old) }
@@ -235,6 +251,9 @@ pub fn query<'a, F: Files, O: Write, E: Write>(
     let layout = load(alloc, required(matches, LAYOUT), files)?;
     let wanted = wanted_of(alloc, matches, &layout)?;
     check_form(alloc, form, &wanted)?;
+    if !required(matches, BLOCK_OPTION).is_empty() {
+        return tell_of_blocks(alloc, matches, &layout, wanted, files, out);
+    }
     let request = Request {
         form,
         layout,
@@ -257,12 +276,7 @@ struct Request {
     wanted: Wanted,
 }
 
-/// Do the words ask for what is known of the question, and not for its answer?
-fn is_only_told(matches: &ArgMatches<'_>) -> bool {
-    required(matches, EXPLAIN) == "true" || !required(matches, PROGRAM).is_empty()
-}
-
-/// Asks a question of a device in memory, and prints the answer; or prints how it is understood; or writes its program.
+/// Asks a question of a device in memory, and prints the answer; or prints how it is understood; or writes a program of it.
 fn ask_copy<'a, F: Files, O: Write, E: Write>(
     alloc: Global,
     matches: &ArgMatches<'a>,
@@ -271,7 +285,7 @@ fn ask_copy<'a, F: Files, O: Write, E: Write>(
     out: &mut O,
     err: &mut E,
 ) -> Result<(), Failure<'a>>
-    ensures one { MakesAtMostOne (F.made files.old) (F.made files.new) }
+    ensures one { MakesAtMost (program_file matches.now) (F.made files.old) (F.made files.new) }
     ensures unmade { program_file matches.now ≡ [] → F.made files.new ≡ F.made files.old }
     ensures unchanged { program_file matches.now ≡ [] → F.contents files.new ≡ F.contents files.old }
     ensures kept { OnErr result (F.made files.new ≡ F.made files.old) }
@@ -285,13 +299,13 @@ fn ask_copy<'a, F: Files, O: Write, E: Write>(
     } = request;
     let device = device_file::load_copy(alloc, required(matches, IMAGE), files)?;
     let plan = planned(alloc, matches, &layout, wanted, device.image())?;
-    if required(matches, EXPLAIN) == "true" {
-        let text = explained(alloc, &layout, &plan)?;
+    if is_explained(matches) {
+        let mut text = explained(alloc, &layout, &plan.compiled)?;
+        push_work(&plan, &mut text)?;
         return printed(out.write_all(text.as_bytes()));
     }
-    let path = required(matches, PROGRAM);
-    if !path.is_empty() {
-        return write_program(alloc, path, plan.parts.as_slice(), files, out);
+    if !required(matches, PROGRAM).is_empty() {
+        return write_program(alloc, matches, &plan.compiled, files, out);
     }
     let mut asked = AskedDevice::new(alloc, device)?;
     answer(alloc, &mut asked, &plan, form, out)?;
@@ -341,21 +355,15 @@ fn planned<'a>(
     let argument = number(matches, ARGUMENT_OPTION)?;
     let source = source_asked(alloc, matches, image)?;
     let geometry = image.geometry();
-    let mut question = question_asked(alloc, matches, layout, &wanted, geometry.block())?;
-    let records = question.count;
-    let parts = parts_of(alloc, &mut question, geometry.block())?;
-    let appends = question.emitted.is_some();
+    let compiled = compile_question(alloc, matches, layout, wanted, geometry.block())?;
+    let appends = compiled.question.emitted.is_some();
     let destination = destination_for(alloc, matches, image, source.zone, appends)?;
-    let block = geometry.block();
-    let blocks = blocks_of_run(block, parts.as_slice(), appends, geometry.capacity());
+    let parts = compiled.parts.as_slice();
+    let blocks = blocks_of_run(compiled.block, parts, appends, geometry.capacity());
     Ok(Plan {
-        block,
+        compiled,
         source,
         argument,
-        wanted,
-        question,
-        records,
-        parts,
         destination,
         destination_lba: first_of(destination, geometry.size()),
         is_kept: !required(matches, INTO).is_empty(),
@@ -388,41 +396,11 @@ fn check_form<'a>(alloc: Global, form: Form, wanted: &Wanted) -> Result<(), Fail
     }
 }
 
-/// Writes the only program of a question, and prints the words that load it.
-fn write_program<'a, F: Files, O: Write>(
-    alloc: Global,
-    path: &'a str,
-    parts: &[Part],
-    files: &mut F,
-    out: &mut O,
-) -> Result<(), Failure<'a>>
-    ensures one { MakesAtMostOne (F.made files.old) (F.made files.new) }
-    ensures kept { OnErr result (F.made files.new ≡ F.made files.old) }
-    ensures contents { OnErr result (F.contents files.new ≡ F.contents files.old) }
-{
-    match parts {
-        [part] => {
-            let limit = part.sizes.limit();
-            let shown = Shown(path);
-            let line = format!(in alloc; "entry load --slot 0 --program {shown} --emit {limit}\n")?;
-            printed(out.write_all(line.as_bytes()))?;
-            write(path, part.program.as_slice(), files)
-        }
-        _ => {
-            let programs = parts.len();
-            let told = format!(in alloc;
-                "--program: the question takes {programs} programs; select fewer bytes, or give the layout a `count` of fewer records"
-            );
-            Err(refused(told))
-        }
-    }
-}
-
 /// Notes how often the zone was gone over, where that is more than once. Where it can't be noted, nobody can be told.
 fn note_runs<E: Write>(plan: &Plan, err: &mut E) {
     let runs = plan.runs();
     if runs > 1 {
-        let programs = Counted(plan.parts.len() as u64, "program");
+        let programs = Counted(plan.compiled.parts.len() as u64, "program");
         let _told = writeln!(err, "note: {programs}, {runs} runs");
     }
 }

@@ -17,11 +17,11 @@ pub(crate) fn push_rows(
     bytes: &[u8],
     printing: &mut Printed,
 ) -> Result<(), AllocError> {
-    let from = match plan.wanted.range() {
+    let from = match plan.compiled.wanted.range() {
         Some(range) => range.offset,
         None => 0,
     };
-    for block in bytes.chunks(plan.block.bytes() as usize) {
+    for block in bytes.chunks(plan.compiled.block.bytes() as usize) {
         push_rows_of_block(columns, from, block, printing)?;
     }
     Ok(())

@@ -18,15 +18,15 @@ pub(crate) fn answer_tallies<'a>(
     tallies: &[NamedTally],
     printing: &mut Printed,
 ) -> Result<(), Failure<'a>> {
-    let mut totals = vec![in alloc; 0u64; plan.question.tallies.len()]?;
+    let mut totals = vec![in alloc; 0u64; plan.compiled.question.tallies.len()]?;
     for time in 0..plan.times() {
         let stretch = plan.stretch(time);
-        for index in 0..plan.parts.len() {
+        for index in 0..plan.compiled.parts.len() {
             run(alloc, asked, plan, index, stretch)?;
             let length = asked.result(alloc, slot_of(index))?;
             let words = asked.data(length);
             add_words(
-                plan.question.tallies.as_slice(),
+                plan.compiled.question.tallies.as_slice(),
                 words,
                 totals.as_mut_slice(),
             );

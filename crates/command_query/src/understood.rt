@@ -124,7 +124,7 @@ fn records_of_block<'a>(
     if count == 0 || count > fitting {
         let end = first.saturating_add(count.max(1).saturating_mul(size));
         let told = format!(in alloc;
-            "the layout's records end at byte {end} of a block, and a block of this image has {bytes}; at most {fitting} fit"
+            "the layout's records end at byte {end} of a block, and a block has {bytes} bytes; at most {fitting} fit"
         );
         return Err(refused(told));
     }

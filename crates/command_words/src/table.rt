@@ -38,6 +38,8 @@ pub struct Argument {
 pub enum Takes {
     /// The word in its place, which has to be there.
     Place,
+    /// The word in its place, which can be left out, and with which this option has to be given.
+    PlaceWith(&'static str),
     /// None: a flag.
     Nothing,
     /// None: a flag that is given with the first of these alone, and never with the second.
@@ -46,6 +48,8 @@ pub enum Takes {
     Required(&'static str),
     /// One that can be left out.
     Optional(&'static str),
+    /// One that can be left out, and with which the second of these has to be given.
+    OptionalWith(&'static str, &'static str),
     /// One, and where it isn't given the second of these.
     Default(&'static str, &'static str),
     /// One of these words, and where it isn't given the second of these.
@@ -110,12 +114,16 @@ fn parsed<'a>(alloc: Global, argument: &'static Argument) -> Result<Arg<'a>, All
     let parsed = Arg::new(alloc, argument.id).help(argument.help);
     Ok(match argument.takes {
         Takes::Place => parsed.required(true),
+        Takes::PlaceWith(needed) => parsed.requires_arg(needed)?,
         Takes::Nothing => flag(parsed, argument),
         Takes::NothingWithout(needed, excluded) => flag(parsed, argument)
             .requires_arg(needed)?
             .conflicts_with(excluded)?,
         Takes::Required(value) => valued(parsed, argument, value).required(true),
         Takes::Optional(value) => valued(parsed, argument, value),
+        Takes::OptionalWith(value, needed) => {
+            valued(parsed, argument, value).requires_arg(needed)?
+        }
         Takes::Default(value, default) => valued(parsed, argument, value).default_value(default),
         Takes::OneOf(value, default, words) => valued(parsed, argument, value)
             .default_value(default)
