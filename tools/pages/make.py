@@ -1,8 +1,8 @@
 #!/usr/bin/env python3
 """Makes reference pages from the sources, so that none is kept by hand.
 
-    make.py                writes docs/proved.md: the laws of each crate and its public contracts, each with the first paragraph of the
-                           comment above it
+    make.py                writes docs/proved.md: the laws of each crate, and the public contracts of those that others call, each with
+                           the first paragraph of the comment above it
     make.py --check        compares it with what is there, and ends with status 1 where it differs
     make.py --definitions  prints the public definitions of each crate, in the order of its specs/Lib.antt, with the comments above them
 
@@ -19,9 +19,10 @@ CRATES = ROOT / "crates"
 PROVED = """# What is proved
 
 Made by `tools/pages/make.sh`. Each function is safe on every input that its contract takes, and returns. A law is a function that does
-nothing: its contract is what its row says. Below the laws are the functions that have a contract, each with the first lines of
-its comment, under which the contract stands in the source. *Ghost* is what a trait asks for beside its functions, *as* a type that
-has it, and *inside* a function that no other crate can call. That memory is wanting or a file fails no row repeats.
+nothing: its contract is what its row says. All laws are here. Of the crates that programs and other projects call, the functions that
+have a contract follow, each with the first lines of its comment; the contract is under that comment in the source. *Ghost* is what a
+trait asks for beside its functions, *as* a type that has it, and *inside* a function that no other crate can call. Rows don't repeat
+that memory may lack and files may fail.
 
 """
 DEFINED = """# Definitions
@@ -33,6 +34,14 @@ and proofs alone hand on.
 
 # crates that serve tests and measures alone
 PROMISE_NOTHING = re.compile(r"bench_\w+|\w+_tests|test_inputs")
+
+# crates whose public functions are for programs and other projects; those of all others are parts of these
+PUBLISHED = {
+    *("program_interface", "nvme_entry", "image_store", "image_text", "zns_commands", "ebpf_decode", "ebpf_asm", "interp", "verified_run"),
+    *("verifier", "question_words", "question_compiler", "emit_append", "durable_device", "device_serve"),
+    *("device_events", "runner", "device_library", "tcp_served", "event_frames", "event_text", "command_images"),
+    *("command_exec", "command_query", "command_serve", "command_programs", "command_entry", "command_explain", "zscli"),
+}
 
 # functions that no other crate can call, whose contracts are promises to the user all the same; those not found yet
 INSIDE = {
@@ -134,7 +143,7 @@ def proved(crate: str) -> str:
         whole, law = module in public or file == root or root.stem == "main", module == "laws"
         path = f"{module}::" if module in public and not law else ""
         rows[law].extend(promises(file, path, lambda name: whole or name in handed_on))
-    return table("Law", rows[True]) + table("Function", rows[False])
+    return table("Law", rows[True]) + (table("Function", rows[False]) if crate in PUBLISHED else "")
 
 
 def spec_files(index: Path, folder: Path) -> Iterator[Path]:
