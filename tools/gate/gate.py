@@ -14,7 +14,8 @@ so is tried as `rt ci` does it: alone, over the whole crate, from nothing. So is
 A static library is built of what was proved, and not proved again for that. Beside each library it is noted of what it was proved, so
 that tools/gate/proving.py takes it. What the parts took is printed at the end.
 
-With a kit whose `rt` isn't known here, this is `rt ci` itself.
+A kit whose `rt` keeps what passed, as 13f does, proves and tries here too only what changed. With a kit whose `rt` isn't known, this is
+`rt ci` itself.
 """
 
 import importlib.machinery
@@ -32,8 +33,9 @@ from typing import Any, Dict, List, NamedTuple, Optional, Set, Tuple
 
 import proving
 
-KNOWN = {"rattle-kit-13b logic dac8208d650f15bf"}
-Verdict = Tuple[bool, str]
+KNOWN = {"rattle-kit-13b logic dac8208d650f15bf", "rattle-kit-13f logic dac8208d650f15bf"}
+# what trying an edit came to, which is True or "refused" where it is refused, as the kit has it; and what to say of it
+Verdict = Tuple[Any, str]
 
 
 class Change(NamedTuple):
@@ -197,7 +199,7 @@ def tried_together(rt: ModuleType, crate: Any, changes: Dict[str, Change], flags
             refused = refused_in(rt, crate, {it: changes[it] for it in edits}, flags, kept)
             for edit in refused:
                 where = ", ".join(sorted({function for _, function in changes[edit].functions}))
-                found[edit] = True, f"must-fail {crate.name}/{os.path.basename(edit)}: refused, as it must be: {where} isn't proved"
+                found[edit] = getattr(rt, "REFUSED", True), f"must-fail {crate.name}/{os.path.basename(edit)}: refused, as it must be: {where} isn't proved"
             left = [it for it in edits if it not in refused]
             if left and len(edits) > 1:
                 rounds += [left] if refused else [[it] for it in left]
@@ -217,15 +219,45 @@ def must_fail_all(rt: ModuleType, crate: Any, edits: List[str], flags: List[str]
     return verdicts
 
 
-def putting_aside(made: Any) -> Any:
-    """`ci_from_nothing`, which puts aside what it finds, and then says where that is."""
+def adding_edits(rt: ModuleType) -> Any:
+    """`add_edits` of a kit that keeps what edits came to: one task for all edits of a crate that weren't tried before."""
 
-    def ci_from_nothing(aside: str) -> int:
+    def add_edits(tasks: Any, crate: Any, edits: List[str], first: Any, waits: Any, is_well: Any, kept: Any) -> Any:
+        if not edits:
+            return lambda given: [], dict
+        known: Dict[int, Verdict] = {}
+
+        def try_all(given: Any, _jobs: int) -> Optional[List[Verdict]]:
+            names = [kept.of_edit(it, kept.key(crate)) for it in edits]
+            known.update((at, told) for at, told in enumerate(map(kept.tried, names)) if told)
+            if not is_well(given, len(edits) - len(known)):
+                return None
+            left = [at for at in range(len(edits)) if at not in known]
+            found = dict(zip(left, must_fail_all(rt, crate, [edits[at] for at in left], ["--jobs", "1"]))) if left else {}
+            for at, (kind, text) in found.items():
+                if kind in rt.SETTLED and kept.is_untouched(crate):
+                    kept.keep_tried(names[at], kind, text)
+            return [known.get(at) or found[at] for at in range(len(edits))]
+
+        key = crate.name, "edits", 0
+        tasks[key] = [*waits, *first], crate.count(rb"\n"), rt.need(crate), try_all
+        return lambda given: given[key], lambda: known
+
+    return add_edits
+
+
+def putting_aside(made: Any) -> Any:
+    """What puts aside what it finds before it proves, and then says where that is. What comes back after it is no library that it made."""
+
+    def puts_aside(aside: str, *more: Any) -> int:
         os.environ["GATE_ASIDE"] = aside
-        status: int = made(aside)
+        status: int = made(aside, *more)
+        for it in Path(aside).glob("*/rlib"):
+            if proving.rlib(it.parent.name).is_dir():
+                shutil.rmtree(it)
         return status
 
-    return ci_from_nothing
+    return puts_aside
 
 
 def taken(name: str) -> bool:
@@ -242,11 +274,11 @@ def taken(name: str) -> bool:
     return False
 
 
-def noting(made: Any) -> Any:
-    """`ci` of a crate, which then notes of what its library was proved."""
+def noting(made: Any, keeps: bool) -> Any:
+    """`ci` of a crate, which then notes of what its library was proved. keeps: whether the kit itself takes what was proved before."""
 
     def ci(crate: Any, flags: List[str], tests: bool) -> int:
-        if not tests and taken(crate.name):
+        if not keeps and not tests and taken(crate.name):
             print("taken as it was proved before", file=crate.out)
             return 0
         status: int = built(crate, flags) if crate.is_static and not tests else made(crate, flags, tests)
@@ -331,13 +363,19 @@ def built(crate: Any, flags: List[str]) -> int:
         return status or crate.call(f"{kit}/bin/rattle", "build", *words, *made)
 
 
-def by_kit() -> int:
-    """`rt ci` itself."""
-    status = subprocess.call(["rt", "ci"])
-    for line in (proving.TOP / "crates.txt").read_text().splitlines() if not status else []:
+def note_rest() -> None:
+    """Notes beside the libraries that a run took as they were kept of which sources they are."""
+    for line in (proving.TOP / "crates.txt").read_text().splitlines():
         for name in proving.Crates(line.partition(":")[0].split()[0]).names if ":" in line.partition("#")[0] else []:
             if proving.rlib(name).is_dir() and not proving.Stamps(proving.Crates(name), proving.Kit()).kept(name):
                 note(name, 0)
+
+
+def by_kit() -> int:
+    """`rt ci` itself."""
+    status = subprocess.call(["rt", "ci"])
+    if not status:
+        note_rest()
     return status
 
 
@@ -353,9 +391,9 @@ def edits_of(rt: ModuleType, names: List[str]) -> int:
             if not (dep.is_built() or proving.prove(dep.name) == 0):
                 return 1
         others = sorted(str(it) for it in (proving.TOP / "tests" / "faults" / "edits" / crate.name).glob("*.edit"))
-        for is_well, text in must_fail_all(rt, crate, rt.edits_of(crate)[0] + others, ["--jobs", "1"]):
+        for kind, text in must_fail_all(rt, crate, rt.edits_of(crate)[0] + others, ["--jobs", "1"]):
             rt.say(text)
-            status = status if is_well else 1
+            status = status if kind in (True, "refused", "limit") else 1
     return status
 
 
@@ -379,9 +417,14 @@ def main() -> int:
     loader.exec_module(rt)
     if sys.argv[1:2] == ["edits"]:
         return edits_of(rt, sys.argv[2:])
-    rt.must_fail_all = lambda crate, edits, flags: must_fail_all(rt, crate, edits, flags)  # type: ignore[attr-defined]
-    rt.Crate.ci = noting(rt.Crate.ci)  # type: ignore[attr-defined]
-    rt.ci_from_nothing = putting_aside(rt.ci_from_nothing)  # type: ignore[attr-defined]
+    keeps = hasattr(rt, "add_edits")
+    rt.Crate.ci = noting(rt.Crate.ci, keeps)  # type: ignore[attr-defined]
+    if keeps:
+        rt.add_edits = adding_edits(rt)  # type: ignore[attr-defined]
+        rt.ci_over = putting_aside(rt.ci_over)  # type: ignore[attr-defined]
+    else:
+        rt.must_fail_all = lambda crate, edits, flags: must_fail_all(rt, crate, edits, flags)  # type: ignore[attr-defined]
+        rt.ci_from_nothing = putting_aside(rt.ci_from_nothing)  # type: ignore[attr-defined]
     begun = time.monotonic()
     with tempfile.NamedTemporaryFile(prefix="gate-uses-") as uses:
         os.environ["GATE_USES"] = uses.name
@@ -389,6 +432,8 @@ def main() -> int:
         status: int = rt.main(["ci"])
         sys.stdout.flush()
         print_uses(time.monotonic() - begun)
+    if not status:
+        note_rest()
     return status
 
 
