@@ -398,11 +398,11 @@ def prove(name: str) -> int:
 
 
 def print_times() -> None:
-    """Prints what each crate took when it was proved last."""
+    """Prints what each crate took when it was proved last, but for those that were taken as they were kept."""
     for line in (TOP / "crates.txt").read_text().splitlines():
         name = line.partition("#")[0].partition(":")[0].split()[:1]
         words = Stamps(Crates(name[0]), Kit()).kept(name[0]).split() if name else []
-        if words:
+        if words and words[2] != "0":
             print(name[0], words[2])
 
 
