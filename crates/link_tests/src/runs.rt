@@ -1,15 +1,19 @@
-//! What two programs leave of the same blocks.
+//! A program beside the slots that `ebpf_link` made it of: both run, with every check, on blocks of several kinds that look random.
 
-use crate::blocks::{KINDS, make_block, words_of};
-use crate::running::{Left, group_room, run};
+mod blocks;
+mod numbers;
+mod running;
+
+use blocks::{KINDS, make_block, words_of};
 use ebpf_decode::{decode, push_instruction};
 use ebpf_link::{BLOCK_GUARD, EMIT_GUARD, MEMORY_GUARD, ROUNDS_GUARD};
 use instruction_set::{Instruction, Program};
+use numbers::Numbers;
 use program_interface::{BlockSize, Context, SCRATCH_BYTES};
 use program_meaning::End;
-use std::alloc::{AllocError, Global};
+use running::{Left, group_room, run};
+use std::alloc::Global;
 use std::test::Fail;
-use test_inputs::numbers::Numbers;
 
 /// How many block runs left the same, and how many a guard ended.
 #[derive(Clone, Copy, Debug, PartialEq, Eq)]

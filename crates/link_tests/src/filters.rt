@@ -1,4 +1,7 @@
-//! Objects of drafts, as clang 14 makes them by the flags of `examples/Makefile` for v3 with `-fno-addrsig`, after `llvm-strip
+//! Filters whose C has loops, functions and tables, and what `link` makes of these: the first drafts of `examples/drafts`, those of
+//! `examples/refused` that it mends, and a vector that was worked out by hand.
+//!
+//! The objects are those that clang 14 makes by the flags of `examples/Makefile` for v3 with `-fno-addrsig`, after `llvm-strip
 //! --strip-unneeded`. `make check` in `examples/` compares their digits with what clang makes today.
 
 mod entries;
@@ -7,6 +10,7 @@ mod refused;
 mod sql;
 mod storage;
 
+use crate::runs::compare;
 use ebpf_calls::only_function;
 use ebpf_decode::{decode, push_instruction};
 use ebpf_gather::gather;
@@ -15,7 +19,6 @@ use ebpf_link::{LinkFault, Linked, MarkRule, Target, link};
 use ebpf_object::Object;
 use instruction_set::{Instruction, Program};
 use interval_domain::Intervals;
-use linked_runs::compare;
 use program_interface::{BlockSize, RunSizes};
 use std::alloc::Global;
 use std::process::Abort;

@@ -1,8 +1,8 @@
 //! Blocks that look random.
 
+use super::numbers::Numbers;
 use instruction_set::{Instruction, Source};
 use std::alloc::{AllocError, Global};
-use test_inputs::numbers::Numbers;
 
 /// How many kinds of blocks there are.
 pub(crate) const KINDS: usize = 8;
