@@ -1,9 +1,9 @@
 //! The faults of bytes, and the bytes of a program, both ways.
 
+use crate::slots::{MATCHING, bytes_of};
 use ebpf_decode::{DecodeFault, Fault, FaultKind, decode, encode};
 use std::alloc::Global;
 use std::test::Fail;
-use test_inputs::slots::{MATCHING, bytes_of};
 
 /// The bytes' fault; `None` where they decode.
 fn fault_of(alloc: Global, bytes: &[u8]) -> Result<Option<Fault>, Fail> {

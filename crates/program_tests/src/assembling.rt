@@ -2,13 +2,14 @@
 
 mod outside;
 
+use crate::slots;
 use ebpf_asm::{AssembleFault, AssemblyRefusal, Fault, FaultKind, assemble, disassemble};
 use ebpf_decode::decode;
 use outside::PROGRAMS;
 use std::alloc::Global;
 use std::process::Abort;
 use std::test::Fail;
-use test_inputs::{programs, slots};
+use test_inputs::programs;
 
 /// Instructions of arithmetic and byte swaps, each with its bytes (RFC 9669, 4.1 and 4.2). This table and the next two have each
 /// mnemonic once.
