@@ -2,11 +2,11 @@
 
 ghost use Rattle.std.specs.Prelude.{◌≡◌, codes, IfErr, IfOk, Some};
 ghost use Rattle.command_files.specs.Arguments.{number_of};
-ghost use Rattle.command_profile.specs.Profile.{IsToldOfProfile, profile_number};
+ghost use Rattle.command_files.specs.Profile.{IsToldOfProfile, profile_number};
 
+use crate::arguments::{not_in_range, required};
+use crate::failure::Failure;
 use clap::ArgMatches;
-use command_files::Failure;
-use command_files::arguments::{not_in_range, required};
 use text_lines::decimal;
 
 /// The option that gives the number of a profile: 2 where it isn't given.

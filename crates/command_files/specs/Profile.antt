@@ -8,8 +8,8 @@ use Rattle.interval_domain.specs.declared.fact.Fact.{Fact}
 use Rattle.word_domain.specs.Domain.{Operations}
 use Rattle.command_files.specs.declared.failure.Failure.{Failure}
 use Rattle.command_files.specs.UserTold.{SpellsNone}
-use Rattle.command_profile.specs.declared.profile.Profile.{Profile}
-use Rattle.command_profile.specs.declared.profile.Profile.TheVariants.{Two, Three}
+use Rattle.command_files.specs.declared.profile.Profile.{Profile}
+use Rattle.command_files.specs.declared.profile.Profile.TheVariants.{Two, Three}
 
 -- the number of a profile
 abbrev pub profile_number : Profile → ℕ
