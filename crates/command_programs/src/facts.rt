@@ -1,5 +1,4 @@
 //! What is known at the slots of a program, as lines that users read, and of the registers that an instruction reads.
-#![tactic(auto)]
 
 mod forgotten;
 mod listing;
@@ -9,6 +8,6 @@ mod told;
 mod wanted;
 mod ways;
 
-pub use listing::fact_lines;
-pub use reads::{ReadRegister, read_registers};
-pub use told::Told;
+pub(crate) use listing::fact_lines;
+pub(crate) use reads::{ReadRegister, read_registers};
+pub(crate) use told::Told;

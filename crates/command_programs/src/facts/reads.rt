@@ -1,6 +1,6 @@
 //! Which registers an instruction reads, and what is known of them.
 
-use crate::told::Told;
+use super::told::Told;
 use accepted_programs::Facts;
 use instruction_set::{Instruction, Operation, Register, Source};
 use program_interface::EMIT;

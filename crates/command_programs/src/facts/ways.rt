@@ -1,8 +1,8 @@
 //! Where ways meet on which a register isn't an address in the same area.
 
-use crate::forgotten::left_in;
-use crate::told::Told;
-use crate::wanted::target;
+use super::forgotten::left_in;
+use super::told::Told;
+use super::wanted::target;
 use accepted_programs::Facts;
 use instruction_set::{Instruction, Program, Register, Relation, Source, Width};
 use word_domain::{Domain, Offsets};
@@ -102,7 +102,7 @@ impl<D: Domain> Known<'_, D> {
     }
 
     /// What a register is known to be on the way from one slot to another, if there is one.
-    #[tactic(auto, using(crate::proofs::Sizes::facts_fit))]
+    #[tactic(auto, using(crate::proofs::FactSizes::facts_fit))]
     fn brought(&self, from: usize, to: usize, register: Register) -> Option<Told> {
         D::fact_fits();
         let facts = self.at(from)?;

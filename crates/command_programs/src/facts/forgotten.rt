@@ -1,6 +1,6 @@
 //! Where an instruction makes a word of an address that is known as an address no more.
 
-use crate::told::Told;
+use super::told::Told;
 use accepted_programs::{CELL_BYTES, Facts};
 use instruction_set::{Instruction, Operation, Register, Size, Source, Width};
 use program_interface::{Area, CLEARED_REGISTERS};

@@ -3,8 +3,8 @@
 ghost use Rattle.std.specs.Prelude.{◌<◌};
 ghost use Rattle.program_interface.specs.declared.TheConstants.{MOST_SLOTS};
 
-use crate::reads::registers_read;
-use crate::register_set::RegisterSet;
+use super::reads::registers_read;
+use super::register_set::RegisterSet;
 use instruction_set::{Instruction, Program, Register};
 use std::alloc::{AllocError, Global};
 

@@ -1,11 +1,11 @@
 //! The lines.
 
-use crate::forgotten::{Forgotten, forgotten_by, unknown_word};
-use crate::reads::{ReadRegister, read_registers};
-use crate::register_set::RegisterSet;
-use crate::told::Told;
-use crate::wanted::registers_wanted;
-use crate::ways::{Known, Meeting};
+use super::forgotten::{Forgotten, forgotten_by, unknown_word};
+use super::reads::{ReadRegister, read_registers};
+use super::register_set::RegisterSet;
+use super::told::Told;
+use super::wanted::registers_wanted;
+use super::ways::{Known, Meeting};
 use accepted_programs::{Facts, Refusal};
 use ebpf_asm::instruction_text;
 use instruction_set::{Instruction, Program, Register};
@@ -22,7 +22,7 @@ use word_domain::Domain;
 /// # Errors
 ///
 /// Want of memory.
-#[tactic(auto, using(crate::proofs::Sizes::facts_fit))]
+#[tactic(auto, using(crate::proofs::FactSizes::facts_fit))]
 pub fn fact_lines<D: Domain>(
     alloc: Global,
     program: &Program,
@@ -88,7 +88,7 @@ fn push_instruction(
 }
 
 /// What is known where an instruction is, and the end of its line; and lines that say what is forgotten there.
-#[tactic(auto, using(crate::proofs::Sizes::facts_fit))]
+#[tactic(auto, using(crate::proofs::FactSizes::facts_fit))]
 fn push_known<D: Domain>(
     known: &Known<'_, D>,
     slot: usize,
