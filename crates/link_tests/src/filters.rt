@@ -11,9 +11,8 @@ mod sql;
 mod storage;
 
 use crate::runs::compare;
-use ebpf_calls::only_function;
 use ebpf_decode::{decode, push_instruction};
-use ebpf_gather::gather;
+use ebpf_gather::{gather, only_function};
 use ebpf_inline::inline;
 use ebpf_link::{LinkFault, Linked, MarkRule, Target, link};
 use ebpf_object::Object;

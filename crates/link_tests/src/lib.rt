@@ -1,5 +1,5 @@
-//! The tests of what makes programs of C: objects and their lines, `ebpf_object` to `ebpf_lines`; and what `ebpf_link` makes of objects, which
-//! runs beside the slots that it was made of. They are a crate of their own, so that each of those is proved once.
+//! The tests of what makes programs of C: of objects, `ebpf_object`, `ebpf_lines` and `ebpf_gather`, and of what `ebpf_link` makes of
+//! them, which runs beside the slots that it was made of. They are a crate of their own, so that each of those is proved once.
 #![tactic(auto)]
 
 #[cfg(test)]

@@ -1,7 +1,7 @@
 //! An object as clang makes it, and the same one with a wrong field.
 
 use crate::calls_object::calls;
-use ebpf_calls::{Reference, reference_of};
+use ebpf_gather::{Reference, reference_of};
 use ebpf_object::{Object, ObjectFault};
 use std::alloc::Global;
 use std::str;

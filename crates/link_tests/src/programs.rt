@@ -1,9 +1,8 @@
 //! The program of the object, on blocks for which `vectors/calls.c` says by hand what is emitted.
 
 use crate::calls_object::calls;
-use ebpf_calls::{called_slots, named_function, only_function};
 use ebpf_decode::{decode, push_instruction};
-use ebpf_gather::gather;
+use ebpf_gather::{called_slots, gather, named_function, only_function};
 use ebpf_inline::inline;
 use ebpf_link::{Target, link};
 use ebpf_object::Object;
