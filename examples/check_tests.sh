@@ -1,6 +1,6 @@
 #!/bin/sh
 # Compares the programs of tests/filters/programs with what clang makes of this folder's files today, for both versions of the
-# instruction set, and of those of spills/ and refused/; in the tests of linked_filters the objects of drafts/ and refused/; and the filter
+# instruction set, and of those of spills/ and refused/; in link_tests the objects of drafts/ and refused/; and the filter
 # of pushdown.cmd. Prints the digits of those that differ, and then ends with status 1.
 set -eu
 cd "$(dirname "$0")"
@@ -54,7 +54,7 @@ for kind in linux sql storage; do
         make -s FROM=drafts/$kind TO="$work/$kind" MADE_FOR="-mcpu=v3 -O2 -g0 -fno-addrsig -w" "$made.o"
         llvm-strip --strip-unneeded -o "$made.text" "$made.o"
     done
-    compare "$work/$kind" ../crates/linked_filters/src/tests/$kind.rt
+    compare "$work/$kind" ../crates/link_tests/src/filters/$kind.rt
 done
 
 mkdir "$work/mended"
@@ -63,7 +63,7 @@ for filter in counts last range signed unbounded; do
     make -s -C refused TO="$work/mended" MADE_FOR="-mcpu=v3 -O2 -g0 -fno-addrsig -w" "$made.o"
     llvm-strip --strip-unneeded -o "$made.text" "$made.o"
 done
-compare "$work/mended" ../crates/linked_filters/src/tests/refused.rt
+compare "$work/mended" ../crates/link_tests/src/filters/refused.rt
 
 digits=$(xxd -p "$work/v3/filter.text" | tr -d '\n')
 if ! grep -q " $digits\$" pushdown.cmd; then

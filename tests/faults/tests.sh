@@ -30,7 +30,7 @@ series() {
     done
 }
 
-for crate in ${*:-zone_tests ebpf_tests program_tests runner_tests}; do
+for crate in ${*:-zone_tests program_tests runner_tests}; do
     (cd "crates/$crate" && rt test) > "$work/log"
     tests=$PWD/crates/$crate/out/${crate}_tests
     : > "$work/ends"

@@ -19,8 +19,8 @@ use Rattle.command_files.specs.Crash.{AreWritten}
 use Rattle.command_files.specs.Surroundings.{Surroundings}
 use Rattle.command_images.specs.Devices.{TellNamespace}
 use Rattle.command_images.specs.Images.{HasText, image_of}
-use Rattle.command_profile.specs.Profile.{operations_of, profile_number}
-use Rattle.command_profile.specs.declared.profile.Profile.{Profile}
+use Rattle.command_files.specs.Profile.{operations_of, profile_number}
+use Rattle.command_files.specs.declared.profile.Profile.{Profile}
 use Rattle.command_exec.specs.declared.exec.TheConstants.{COMMANDS, WORDS_OPTION}
 use Rattle.command_exec.specs.declared.fail.Refused.{Refused}
 use Rattle.command_exec.specs.Refused.{EndsRefused, NoneRefused, asks_stop, refused_among}

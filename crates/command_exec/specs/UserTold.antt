@@ -5,7 +5,7 @@ use Rattle.clap.specs.declared.parser.matches.ArgMatches.{ArgMatches}
 use Rattle.command_files.specs.declared.failure.Failure.{Failure}
 use Rattle.command_files.specs.declared.failure.Failure.TheVariants.{CannotPrint, CannotRead, CannotWrite, LineRefused, NoMemory, NotInRange}
 use Rattle.command_images.specs.UserTold.{ReplacingFails}
-use Rattle.command_profile.specs.Profile.{IsToldOfProfile}
+use Rattle.command_files.specs.Profile.{IsToldOfProfile}
 
 -- why `exec` ends before its work is done: there is no such profile; standard output fails; the image file can't be written; it or the
 -- command file can't be read; a line of the command file, the lowest that is refused, where the file's bytes are told; why no device is loaded of the

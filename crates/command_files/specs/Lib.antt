@@ -8,6 +8,7 @@ pub mod Linked
 pub mod Shown
 pub mod Number
 pub mod Pieces
+pub mod Profile
 pub mod Arguments
 pub mod Made
 pub mod Crash

@@ -1,5 +1,5 @@
 //! What commands share: why they end before their work is done, what the user is told and the exit status; the files that they
-//! name; how the words of a command line are read, also those that spell numbers; and numbers as a user reads them.
+//! name; how the words of a command line are read, also those that spell numbers and profiles; and numbers as a user reads them.
 #![tactic(auto)]
 
 pub mod arguments;
@@ -22,6 +22,7 @@ mod numbers;
 mod object_file;
 mod option_lines;
 mod pieces;
+mod profile;
 mod shown;
 mod unfinished;
 mod whole;
@@ -41,6 +42,7 @@ pub use notes::{
     GivenNumbers, is_others, linked_line, notes_path, push_damage, push_others, read_or_none,
 };
 pub use object_file::object_refusal;
+pub use profile::{PROFILE, Profile, profile_asked};
 pub use shown::Shown;
 pub use unfinished::FileWriter;
 pub use whole::{cannot_read, cannot_write, read, size_as_block, write};

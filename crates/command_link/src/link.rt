@@ -12,8 +12,9 @@ use clap::ArgMatches;
 use command_files::arguments::{
     BLOCK_ARGUMENT, BLOCK_OPTION, EMIT_OPTION, PROGRAM, block_size, not_in_range, number, required,
 };
-use command_files::{Failure, Files, MOST_OF_TEXT, Shown, printed, read, write};
-use command_profile::{PROFILE, Profile, profile_asked};
+use command_files::{
+    Failure, Files, MOST_OF_TEXT, PROFILE, Profile, Shown, printed, profile_asked, read, write,
+};
 use command_words::{Argument, Takes, Words};
 use ebpf_link::{Linked, LoopRule, MARK_BYTES, MarkRule, Target};
 use program_interface::{BlockSize, SCRATCH_BYTES};

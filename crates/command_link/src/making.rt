@@ -8,9 +8,8 @@ use crate::refusal::{
 use crate::source::{Source, origin_of_slot, source_of};
 use accepted_programs::Refusal as Verdict;
 use address_domain::Addresses;
-use ebpf_calls::{named_function, only_function};
 use ebpf_decode::{decode, push_instruction};
-use ebpf_gather::{Gathered, Origin, gather, origins};
+use ebpf_gather::{Gathered, Origin, gather, named_function, only_function, origins};
 use ebpf_inline::inline;
 use ebpf_link::{GuardPlace, Linked, Target, link};
 use ebpf_object::{Function, Object};

@@ -1,4 +1,5 @@
 mod Assembling
+mod FactSizes
 mod NoPrograms
 mod Texts
 mod Tracing

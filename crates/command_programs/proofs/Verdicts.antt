@@ -14,10 +14,10 @@ use Rattle.program_interface.specs.RunSizes.{Sizes, sizes_with}
 use Rattle.word_domain.specs.Domain.{Operations}
 use Rattle.command_files.specs.Arguments.{number_of}
 use Rattle.command_programs.specs.Asked.{IsLimit, Spell}
-use Rattle.command_profile.specs.Profile.{operations_of, profile_number}
+use Rattle.command_files.specs.Profile.{operations_of, profile_number}
 use Rattle.command_programs.specs.MakesProgram.{program_file_of}
 use Rattle.command_programs.specs.Printed.{Judges, PrintsAcceptance, PrintsFirstRefusal, SaysAccepted, SaysRefused, accepted_line, form_of, refused_line}
-use Rattle.command_profile.specs.declared.profile.Profile.{Profile}
+use Rattle.command_files.specs.declared.profile.Profile.{Profile}
 use Rattle.command_programs.specs.declared.verify.Form.{Form}
 use Rattle.command_programs.specs.declared.verify.Form.TheVariants.{Json, Line, Worded}
 use Rattle.command_programs.specs.steps.Verdict.{acceptance_text, refusal_text}

@@ -18,8 +18,8 @@ use Rattle.word_domain.specs.Domain.{Operations}
 use Rattle.command_files.specs.Arguments.{number_of, value_of}
 use Rattle.command_files.specs.Lines.{GrowsAround}
 use Rattle.command_programs.specs.Asked.{AsksForSizes, Spell, is_set}
-use Rattle.command_profile.specs.Profile.{operations_of, profile_number}
-use Rattle.command_profile.specs.declared.profile.Profile.{Profile}
+use Rattle.command_files.specs.Profile.{operations_of, profile_number}
+use Rattle.command_files.specs.declared.profile.Profile.{Profile}
 use Rattle.command_programs.specs.declared.unpack.TheConstants.{FILE}
 use Rattle.command_programs.specs.declared.verify.Form.{Form}
 use Rattle.command_programs.specs.declared.verify.Form.TheVariants.{Json, Line, Worded}

@@ -3,6 +3,7 @@
 
 pub mod asm;
 pub mod disasm;
+mod facts;
 mod flags;
 mod printing;
 mod program;

@@ -1,8 +1,8 @@
 //! The same as fields of a JSON object. Their values are numbers, `null`, and words and texts of instructions in which no
 //! character has to be escaped.
 
+use crate::facts::{ReadRegister, Told};
 use crate::refused_instruction::{Detail, RefusedInstruction};
-use command_facts::{ReadRegister, Told};
 use instruction_set::Register;
 use program_interface::Area;
 use std::alloc::AllocError;

@@ -1,8 +1,8 @@
 //! Why an instruction is refused, in words: the reason with its numbers, and what is known of the registers.
 
+use crate::facts::ReadRegister;
 use crate::refused_instruction::{Detail, RefusedInstruction};
 use accepted_programs::Reason;
-use command_facts::ReadRegister;
 use command_files::Counted;
 use instruction_set::Register;
 use program_interface::FRAME_LENGTH_BYTES;

@@ -3,8 +3,8 @@
 ghost use Rattle.std.specs.Prelude.{◌<◌};
 ghost use Rattle.program_interface.specs.declared.TheConstants.{MOST_SLOTS};
 
+use crate::facts::{ReadRegister, Told, read_registers};
 use accepted_programs::{Facts, Reason};
-use command_facts::{ReadRegister, Told, read_registers};
 use instruction_set::{Access, Instruction, Register};
 use program_interface::{Area, RunSizes};
 use word_domain::{Bounds, Domain, Offsets};
@@ -64,7 +64,7 @@ pub(crate) enum Detail {
 }
 
 /// What facts tell of an instruction, if there is one.
-#[tactic(auto, using(command_facts::proofs::Sizes::facts_fit))]
+#[tactic(auto, using(crate::proofs::FactSizes::facts_fit))]
 pub(crate) fn known_of<D: Domain>(instruction: Option<&Instruction>, facts: &Facts<D>) -> Known {
     D::fact_fits();
     let registers = match instruction {

@@ -2,17 +2,16 @@
 
 ghost use Rattle.std.specs.Prelude.{◌≡◌, IfOk};
 ghost use Rattle.std.specs.String.{string_bytes};
-ghost use Rattle.command_profile.specs.Profile.{operations_of};
+ghost use Rattle.command_files.specs.Profile.{operations_of};
 ghost use Rattle.command_programs.specs.Printed.{refused_front, refused_line};
 ghost use Rattle.command_programs.specs.steps.Verdict.{IsVerdict, acceptance_text, refusal_text};
 
+use crate::facts::fact_lines;
 use crate::refused_instruction::{Known, RefusedInstruction, known_of};
 use crate::verify::Form;
 use accepted_programs::Refusal;
 use address_domain::Addresses;
-use command_facts::fact_lines;
-use command_files::Counted;
-use command_profile::Profile;
+use command_files::{Counted, Profile};
 use ebpf_asm::instruction_text;
 use instruction_set::Program;
 use interval_domain::Intervals;
@@ -58,7 +57,7 @@ pub(crate) fn judged(
 }
 
 /// Judges a program over a domain.
-#[tactic(auto, using(command_facts::proofs::Sizes::facts_fit))]
+#[tactic(auto, using(crate::proofs::FactSizes::facts_fit))]
 fn judged_over<D: Domain>(
     alloc: Global,
     program: &Program,

@@ -4,7 +4,7 @@ ghost use Rattle.std.specs.Prelude.{◌≡◌, ◌≢◌, codes, Err, Some, IfEr
 ghost use Rattle.clap.specs.Matches.{found_of, first_value};
 ghost use Rattle.program_interface.specs.RunSizes.{sizes_with};
 ghost use Rattle.command_files.specs.Arguments.{number_of};
-ghost use Rattle.command_profile.specs.Profile.{operations_of, profile_number};
+ghost use Rattle.command_files.specs.Profile.{operations_of, profile_number};
 ghost use Rattle.command_programs.specs.Asked.{IsLimit};
 ghost use Rattle.command_programs.specs.MakesProgram.{program_file_of};
 ghost use Rattle.command_programs.specs.Printed.{PrintsAccepted, PrintsRefused, SaysAccepted, SaysRefused, form_of};
@@ -19,8 +19,7 @@ use command_files::arguments::{
     BLOCK_ARGUMENT, BLOCK_OPTION, EMIT_ARGUMENT, PROGRAM, PROGRAM_ARGUMENT, block_size, number,
     required,
 };
-use command_files::{Failure, Files, GivenNumbers, linked_line};
-use command_profile::{PROFILE, Profile, profile_asked};
+use command_files::{Failure, Files, GivenNumbers, PROFILE, Profile, linked_line, profile_asked};
 use command_words::{Argument, Takes, Words};
 use instruction_set::Program;
 use program_interface::RunSizes;

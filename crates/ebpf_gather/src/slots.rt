@@ -5,10 +5,10 @@ ghost use Rattle.ebpf_object.specs.Functions.{LiesIn};
 ghost use Rattle.ebpf_object.specs.Sections.{section_at};
 ghost use Rattle.ebpf_object.specs.Symbols.{symbol_count};
 
-use crate::fault::{GatherFault, SlotProblem};
+use crate::fault::{GatherFault, ReferenceFault, SlotProblem};
 use crate::library::library_function;
+use crate::reference::{Reference, reference_of};
 use crate::wanted::{LibraryCall, Wanted, number_of, symbol_of};
-use ebpf_calls::{Reference, reference_of};
 use ebpf_decode::{read, slot_at};
 use ebpf_inline::FunctionSlot;
 use ebpf_object::{Function, Object, Symbol, SymbolKind};
@@ -248,9 +248,7 @@ fn slot_of(
                 &mut found.functions,
                 Wanted::Symbol(symbol),
             )?)),
-            None => Err(SlotFault::Problem(SlotProblem::Reference(
-                ebpf_calls::ReferenceFault::NoFunction,
-            ))),
+            None => Err(SlotFault::Problem(SlotProblem::Reference(ReferenceFault::NoFunction))),
         },
         Reference::Missing(symbol) => match library_call(object, function, slot, symbol) {
             Ok(call) => Ok(FunctionSlot::Calls(number_of(

@@ -4,6 +4,7 @@ mod context;
 mod vectors;
 mod words;
 
+use crate::slots::{EXIT, bytes_of};
 use ebpf_asm::assemble;
 use ebpf_decode::decode;
 use instruction_set::Program;
@@ -14,7 +15,6 @@ use std::alloc::Global;
 use std::process::Abort;
 use std::test::Fail;
 use test_inputs::programs::MATCHING;
-use test_inputs::slots::{EXIT, bytes_of};
 use vectors::{IMMEDIATE_STORES, LOADS, STORES};
 
 /// The program that a text spells.

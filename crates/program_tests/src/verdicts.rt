@@ -1,5 +1,6 @@
 //! Programs that are accepted or refused, worked out by hand from the rules.
 
+use crate::sizes::sizes;
 use address_domain::Addresses;
 use ebpf_asm::assemble;
 use ebpf_decode::decode;
@@ -9,7 +10,6 @@ use program_interface::RunSizes;
 use std::alloc::Global;
 use std::process::Abort;
 use std::test::Fail;
-use test_inputs::sizes::sizes;
 use verifier::{VerifyFault, verify};
 use word_domain::Domain;
 

@@ -1,6 +1,7 @@
 //! Accepted programs end the same with every check and over their superinstructions.
 
 use super::program;
+use crate::sizes::sizes;
 use interp::Machine;
 use interval_domain::Intervals;
 use program_interface::{BlockSize, CONTEXT_BYTES, Context, SCRATCH_BYTES, STACK_BYTES};
@@ -8,7 +9,6 @@ use program_meaning::End;
 use std::process::Abort;
 use std::test::Fail;
 use test_inputs::programs::{ADDING_THREE, GROWING, MATCHING, Text};
-use test_inputs::sizes::sizes;
 use verified_run::{Prepared, Stack, StepCount};
 use verifier::{Verified, verify};
 

@@ -1,5 +1,5 @@
 use Rattle.std.proofs.Common.{rules}
-use Rattle.command_profile.specs.Profile.{operations_of}
+use Rattle.command_files.specs.Profile.{operations_of}
 use Rattle.command_programs.proofs.Verdicts.{says_accepted, says_refused}
 use Rattle.command_programs.proofs.verify.say.Goals as goal
 

@@ -1,4 +1,0 @@
-mod First
-mod Changes
-mod Addresses
-mod CallTrees

@@ -1,7 +1,0 @@
-use Rattle.std.specs.Prelude.{◌≡◌, None}
-use Rattle.ebpf_calls.specs.First.{first_of}
-use Rattle.ebpf_calls.specs.Functions.{function_numbered}
-use Rattle.ebpf_calls.proofs.symbols.function_at.Given as goal
-
-abbrev pub invariant-loop-number : goal.invariant-loop-number
-invariant-loop-number l = first_of (function_numbered l.object.bytes.now l.object.symbols l.section l.byte) l.number ≡ None

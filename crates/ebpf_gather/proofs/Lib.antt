@@ -1,0 +1,4 @@
+mod First
+mod Changes
+mod ReferencedData
+mod CallTrees
