@@ -9,8 +9,7 @@ use crate::connected::{Connected, Controllers, NamedController};
 use crate::data::{CONNECT_DATA_BYTES, ConnectData, Host, is_equal, is_same_host};
 use crate::qualified_name::name;
 use crate::request::{ANY_CONTROLLER, ConnectRequest};
-use tcp_connection::{Outcome, Queue};
-use tcp_receiver::MOST_IN_CAPSULE;
+use tcp_connection::{MOST_IN_CAPSULE, Outcome, Queue};
 use zone_state::{Status, StatusType};
 
 /// The data is not as long as the command's data is (Data SGL Length Invalid; NVMe Base 2.0, 3.3.3.2).

@@ -5,7 +5,7 @@ use Rattle.std.specs.Prelude.{is_some, nat_le, nat_lt, slice_index_or, slice_set
 use Rattle.tcp_pdus.specs.declared.transfer.ReadyToTransfer.{ReadyToTransfer}
 use Rattle.tcp_pdus.specs.Sent.{r2t}
 use Rattle.tcp_connection.specs.declared.state.ConnectionState.{ConnectionState}
-use Rattle.tcp_receiver.specs.Transfers.{free_tag}
+use Rattle.tcp_connection.specs.Transfers.{free_tag}
 use Rattle.tcp_connection.specs.Commands.{WaitingCommand}
 use Rattle.tcp_connection.specs.Dealing.{asked, asked_for, looked_by, transfer_of, unasked}
 use Rattle.tcp_connection.specs.Executing.{Execution, gone, ready, with_started}

@@ -1,8 +1,8 @@
 -- Two pieces of a connection's stream.
 use Rattle.std.proofs.Common.{◌≡◌, ℕ, ◌+◌, Bool, true, false, cond, ◌&&◌, nat_le, nat_lt, List, [], ◌++◌, length, refl, sym, ap, subst, ◌∙◌, append-nil, append_assoc}
-use Rattle.tcp_receiver.specs.declared.expected.Progress.{Progress}
-use Rattle.tcp_receiver.specs.declared.expected.Progress.TheVariants.{Partial, Whole, Failed}
-use Rattle.tcp_receiver.specs.Receiving as receiving
+use Rattle.tcp_connection.specs.declared.expected.Progress.{Progress}
+use Rattle.tcp_connection.specs.declared.expected.Progress.TheVariants.{Partial, Whole, Failed}
+use Rattle.tcp_connection.specs.Receiving as receiving
 use Rattle.tcp_connection.specs.declared.state.ConnectionState.{ConnectionState}
 use Rattle.tcp_connection.specs.Connection.{Step, taken, takes, took}
 use Rattle.tcp_connection.specs.Dealing.{dealt_by}

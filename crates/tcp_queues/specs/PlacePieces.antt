@@ -1,8 +1,8 @@
 -- What comes on a connection, however it is cut into pieces (NVMe over TCP Transport 1.0, 3.6: a stream of PDUs).
 use Rattle.std.specs.Prelude.{ℕ, ◌≡◌, ◌+◌, List, ◌++◌}
-use Rattle.tcp_receiver.specs.declared.expected.Progress.{Progress}
-use Rattle.tcp_receiver.specs.declared.expected.Progress.TheVariants.{Partial, Whole, Failed}
-use Rattle.tcp_receiver.specs.Receiving as receiving
+use Rattle.tcp_connection.specs.declared.expected.Progress.{Progress}
+use Rattle.tcp_connection.specs.declared.expected.Progress.TheVariants.{Partial, Whole, Failed}
+use Rattle.tcp_connection.specs.Receiving as receiving
 use Rattle.tcp_queues.specs.Places.{PlaceState}
 use Rattle.tcp_queues.specs.Events.{received}
 

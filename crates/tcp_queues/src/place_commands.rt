@@ -1,16 +1,15 @@
 //! The commands of the connection at a place.
 
 ghost use Rattle.std.specs.Prelude.{◌≡◌, ◌≤◌, ◌<◌, ◌+◌, [], IsTrue, is_some, length};
-ghost use Rattle.tcp_receiver.specs.Receiving.{IsBetween};
+ghost use Rattle.tcp_connection.specs.Receiving.{IsBetween};
 ghost use Rattle.tcp_connection.specs.Executing.{ready};
 ghost use Rattle.tcp_queues.specs.Places.{has_room, ready_at};
 ghost use Rattle.tcp_queues.specs.Events.{answered_at, completed_at, connected_at, executed, handed_over, joined, kept, returned};
 
 use crate::outgoing;
 use crate::place::{MOST_KEPT, MOST_UNSENT, Place};
-use tcp_connection::{MOST_BESIDE_DATA, MOST_ENTRIES, MOST_SENT, Outcome, Queue};
+use tcp_connection::{MOST_BESIDE_DATA, MOST_ENTRIES, MOST_IN_CAPSULE, MOST_SENT, Outcome, Queue};
 use tcp_pdus::MOST_DATA;
-use tcp_receiver::MOST_IN_CAPSULE;
 
 impl Place {
     /// Lets the command that is ready go.

@@ -3,8 +3,8 @@ use Rattle.std.proofs.Common.{◌≡◌, ℕ, ◌+◌, ◌<◌, ◌==◌, zero, 
 use Rattle.std.proofs.lemmas.Bool.{cases_lt, ne_eqb}
 use Rattle.std.proofs.lemmas.List.{get_or-set_same, set-set, set_past}
 use Rattle.std.specs.Prelude.{slice_index_or, slice_set}
-use Rattle.tcp_receiver.specs.declared.expected.Progress.{Progress}
-use Rattle.tcp_receiver.specs.declared.expected.Progress.TheVariants.{Partial, Whole, Failed}
+use Rattle.tcp_connection.specs.declared.expected.Progress.{Progress}
+use Rattle.tcp_connection.specs.declared.expected.Progress.TheVariants.{Partial, Whole, Failed}
 use Rattle.tcp_associations.specs.declared.role.Role.{Role}
 use Rattle.tcp_associations.specs.declared.role.Role.TheVariants.{Unconnected, Admin, Io, Ended}
 use Rattle.tcp_associations.specs.Associations.{role_at}
