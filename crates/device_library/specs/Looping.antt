@@ -27,7 +27,7 @@ use Rattle.durable_machine.specs.declared.in_file.InFile.{InFile}
 use Rattle.handed_file.specs.Handed.{made_calls}
 use Rattle.handed_file.specs.declared.handed_file.HandedFile.{HandedFile}
 use Rattle.tcp_device.specs.declared.keeper.Keeper.{Keeper}
-use Rattle.tcp_queues.specs.Queues.{free_number}
+use Rattle.tcp_target.specs.Queues.{free_number}
 use Rattle.tcp_served.specs.Files.{keeping_of}
 use Rattle.tcp_served.specs.Meaning.{in_memory, kept_in_file}
 

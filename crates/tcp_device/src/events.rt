@@ -1,15 +1,15 @@
 //! What happens to a served target beside its commands.
 
 ghost use Rattle.std.specs.Prelude.{◌≡◌, ◌≤◌, ◌<◌, IfSome, length};
-ghost use Rattle.tcp_associations.specs.Associations.{role_at};
+ghost use Rattle.tcp_target.specs.Associations.{role_at};
 ghost use Rattle.tcp_connection.specs.Queue.{is_ended};
-ghost use Rattle.tcp_queues.specs.Queues.{free_number, place_at};
+ghost use Rattle.tcp_target.specs.Queues.{free_number, place_at};
 ghost use Rattle.tcp_target.specs.Events.{count_of};
 ghost use Rattle.tcp_target.specs.Time.{is_given_up};
 ghost use Rattle.tcp_device.specs.Deeds.{Closed, Does, Opened, Received, Sent, Ticked};
 
 use crate::served::ServedTarget;
-use tcp_associations::{MOST_CONNECTIONS, Role};
+use tcp_target::{MOST_CONNECTIONS, Role};
 
 impl ServedTarget {
     /// The number that [`ServedTarget::open`] gives next; `None` where there is none.

@@ -4,8 +4,7 @@ ghost use Rattle.std.specs.Prelude.{◌≡◌, ◌<◌, ◌≤◌, ◌+◌, IfSo
 ghost use Rattle.tcp_device.specs.Served.{can_go, or_else, run_from};
 
 use std::marker::Model;
-use tcp_associations::MOST_CONNECTIONS;
-use tcp_target::Target;
+use tcp_target::{MOST_CONNECTIONS, Target};
 use zone_resources::RUNS;
 
 /// The command that a run completes.

@@ -3,9 +3,9 @@
 ghost use Rattle.std.specs.Prelude.{◌≡◌, ◌≤◌, ◌<◌, IfSome, IsTrue, Some, is_some, length};
 ghost use Rattle.std.specs.Option.{option_map};
 ghost use Rattle.tcp_pdus.specs.declared.sent.TheConstants.{MOST_DATA};
-ghost use Rattle.tcp_queues.specs.Places.{has_room, ready_at};
-ghost use Rattle.tcp_queues.specs.Commands.{connect_data_at, given_to_device};
-ghost use Rattle.tcp_queues.specs.Queues.{place_at};
+ghost use Rattle.tcp_target.specs.Places.{has_room, ready_at};
+ghost use Rattle.tcp_target.specs.QueueCommands.{connect_data_at, given_to_device};
+ghost use Rattle.tcp_target.specs.Queues.{place_at};
 ghost use Rattle.tcp_target.specs.Ready.{is_ready};
 ghost use Rattle.tcp_device.specs.Deeds.{Does, DoesWith, Served};
 ghost use Rattle.tcp_device.specs.Served.{completed_by, kept_by};
@@ -15,10 +15,8 @@ use crate::outcome::outcome_in;
 use crate::pending::{PendingCommand, put_pending};
 use crate::served::ServedTarget;
 use runner::{Device, Reply};
-use tcp_associations::MOST_CONNECTIONS;
 use tcp_pdus::{ENTRY_BYTES, MOST_DATA, identifier};
-use tcp_queues::given_are_live;
-use tcp_target::Target;
+use tcp_target::{MOST_CONNECTIONS, Target, given_are_live};
 
 impl ServedTarget {
     /// Does the command that is ready on a connection, and says whether there is one: the target executes it, or it goes to the

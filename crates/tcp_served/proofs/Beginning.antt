@@ -7,7 +7,7 @@ use Rattle.handed_file.specs.Handing as handing
 use Rattle.handed_file.specs.Handing.{has_refused, settles}
 use Rattle.handed_file.specs.declared.handed_file.FileCall.{FileCall}
 use Rattle.handed_file.specs.declared.handed_file.HandedFile.{HandedFile}
-use Rattle.tcp_queues.specs.Places.{vacant}
+use Rattle.tcp_target.specs.Places.{vacant}
 use Rattle.tcp_device.specs.State.{ServedState}
 use Rattle.tcp_loop.specs.Deeds.{Meaning}
 use Rattle.tcp_loop.specs.Fair.{IsFair, Point}

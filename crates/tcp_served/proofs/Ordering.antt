@@ -13,22 +13,22 @@ use Rattle.tcp_admin.specs.Admin.{response}
 use Rattle.tcp_admin.specs.Properties.{set_by, set_result, set_state}
 use Rattle.tcp_admin.specs.declared.answer.Answer.{Answer}
 use Rattle.tcp_admin.specs.declared.answer.Answer.TheVariants.{Completed, Kept}
-use Rattle.tcp_associations.specs.declared.connected.Connected.{Connected}
-use Rattle.tcp_associations.specs.declared.request.ConnectRequest.{ConnectRequest}
-use Rattle.tcp_associations.specs.declared.role.Role.{Role}
-use Rattle.tcp_associations.specs.declared.role.Role.TheVariants.{Unconnected, Admin, Io, Ended}
-use Rattle.tcp_associations.specs.Associations.{role_at}
-use Rattle.tcp_associations.specs.Connected.{success}
-use Rattle.tcp_associations.specs.Request.{request_in}
+use Rattle.tcp_target.specs.declared.connected.Connected.{Connected}
+use Rattle.tcp_target.specs.declared.connect_request.ConnectRequest.{ConnectRequest}
+use Rattle.tcp_target.specs.declared.role.Role.{Role}
+use Rattle.tcp_target.specs.declared.role.Role.TheVariants.{Unconnected, Admin, Io, Ended}
+use Rattle.tcp_target.specs.Associations.{role_at}
+use Rattle.tcp_target.specs.Connected.{success}
+use Rattle.tcp_target.specs.ConnectRequest.{request_in}
 use Rattle.tcp_connection.specs.Connection.{taken}
 use Rattle.tcp_connection.specs.Executing.{Execution, completed, gone}
 use Rattle.tcp_connection.specs.declared.queue.Outcome.{Outcome}
 use Rattle.tcp_connection.specs.declared.state.ConnectionState.{ConnectionState}
 use Rattle.tcp_pdus.specs.Direction.{identifier_of}
-use Rattle.tcp_queues.specs.Commands.{connect_answer_at, connect_place, connected, given_to_device, is_fabrics, is_for_device, result_of}
-use Rattle.tcp_queues.specs.Events as change
-use Rattle.tcp_queues.specs.Places.{PlaceState, goes_on, is_free, ready_at, vacant}
-use Rattle.tcp_queues.specs.Queues.{QueuesState, free_number, opened_at, place_at, received_at, sent_at, with_place}
+use Rattle.tcp_target.specs.QueueCommands.{connect_answer_at, connect_place, connected, given_to_device, is_fabrics, is_for_device, result_of}
+use Rattle.tcp_target.specs.PlaceEvents as change
+use Rattle.tcp_target.specs.Places.{PlaceState, goes_on, is_free, ready_at, vacant}
+use Rattle.tcp_target.specs.Queues.{QueuesState, free_number, opened_at, place_at, received_at, sent_at, with_place}
 use Rattle.tcp_target.specs.Commands.{answered_with, completed_by, is_connect, served_as, served_by, served_command, served_fabrics, served_unconnected, set_outcome, with_made, with_set}
 use Rattle.tcp_target.specs.Events.{count_of, executed, handed_over, heard_at, heard_on}
 use Rattle.tcp_target.specs.Target.{TargetState, controller_at, with_queues}

@@ -6,18 +6,18 @@ use Rattle.std.proofs.lemmas.List.{get_or-set_same}
 use Rattle.device_events.specs.declared.reply.Reply.{Reply}
 use Rattle.device_events.specs.declared.reply.Reply.TheVariants as reply
 use Rattle.tcp_admin.specs.Properties as properties
-use Rattle.tcp_associations.specs.declared.connected.Connected.{Connected}
-use Rattle.tcp_associations.specs.declared.request.ConnectRequest.{ConnectRequest}
-use Rattle.tcp_associations.specs.declared.role.Role.{Role}
-use Rattle.tcp_associations.specs.declared.role.Role.TheVariants.{Unconnected, Admin, Io, Ended}
-use Rattle.tcp_associations.specs.Associations.{role_at}
-use Rattle.tcp_associations.specs.Request.{request_in}
+use Rattle.tcp_target.specs.declared.connected.Connected.{Connected}
+use Rattle.tcp_target.specs.declared.connect_request.ConnectRequest.{ConnectRequest}
+use Rattle.tcp_target.specs.declared.role.Role.{Role}
+use Rattle.tcp_target.specs.declared.role.Role.TheVariants.{Unconnected, Admin, Io, Ended}
+use Rattle.tcp_target.specs.Associations.{role_at}
+use Rattle.tcp_target.specs.ConnectRequest.{request_in}
 use Rattle.tcp_connection.specs.declared.queue.Outcome.{Outcome}
 use Rattle.tcp_connection.specs.Executing.{Execution}
 use Rattle.tcp_pdus.specs.Direction.{identifier_of}
-use Rattle.tcp_queues.specs.Commands.{connect_answer_at, connected, given_to_device, is_fabrics, is_for_device}
-use Rattle.tcp_queues.specs.Places.{ready_at}
-use Rattle.tcp_queues.specs.Queues.{QueuesState, free_number, place_at}
+use Rattle.tcp_target.specs.QueueCommands.{connect_answer_at, connected, given_to_device, is_fabrics, is_for_device}
+use Rattle.tcp_target.specs.Places.{ready_at}
+use Rattle.tcp_target.specs.Queues.{QueuesState, free_number, place_at}
 use Rattle.tcp_target.specs.Clocks.{is_past, later, later_controller, started_controller}
 use Rattle.tcp_target.specs.Commands.{is_connect, served_as, served_by, served_fabrics, served_unconnected, with_made}
 use Rattle.tcp_target.specs.Counted.{TimeIsCounted}

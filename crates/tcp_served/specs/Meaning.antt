@@ -1,7 +1,7 @@
 -- What a loop does with a target before a device, in the words of the device.
 use Rattle.std.specs.Prelude.{ℕ, ◌≡◌, List, map, Some}
 use Rattle.durable_device.specs.Kept.{MayBeLeft, StandsFor}
-use Rattle.tcp_queues.specs.Queues.{free_number, place_at}
+use Rattle.tcp_target.specs.Queues.{free_number, place_at}
 use Rattle.tcp_target.specs.Events.{count_of}
 use Rattle.tcp_device.specs.Deeds as device
 use Rattle.tcp_device.specs.State.{ServedState}

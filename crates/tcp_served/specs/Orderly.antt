@@ -1,6 +1,6 @@
 -- What a target before a device says of connections, so that its loop is fair to hosts.
 use Rattle.std.specs.Prelude.{ℕ, ◌≡◌, Bool, not, nat_le, ◌||◌, ◌==◌, length, Option}
-use Rattle.tcp_queues.specs.Queues.{free_number, place_at}
+use Rattle.tcp_target.specs.Queues.{free_number, place_at}
 use Rattle.tcp_device.specs.State.{ServedState}
 use Rattle.tcp_loop.specs.Orderly.{IsOrderly}
 use Rattle.tcp_served.specs.Meaning.{in_memory, kept_in_file}

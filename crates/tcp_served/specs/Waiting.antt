@@ -1,8 +1,8 @@
 -- For how long a host is waited for.
 use Rattle.std.specs.Prelude.{ℕ, ◌≡◌, ◌≤◌, ◌<◌, ◌≢◌, ◌+◌, ◌==◌, true, List, [], ◌∷◌, length, Option, None, Some, if◌then◌else◌}
 use Rattle.tcp_admin.specs.declared.controller.Controller.{Controller}
-use Rattle.tcp_associations.specs.declared.role.Role.TheVariants.{Admin}
-use Rattle.tcp_associations.specs.Associations.{role_at}
+use Rattle.tcp_target.specs.declared.role.Role.TheVariants.{Admin}
+use Rattle.tcp_target.specs.Associations.{role_at}
 use Rattle.tcp_target.specs.declared.clocks.ControllerClock.{ControllerClock}
 use Rattle.tcp_target.specs.Clocks.{started_controller}
 use Rattle.tcp_target.specs.Events.{count_of}

@@ -103,7 +103,7 @@ impl DurableTarget {
 
 impl KeptTarget for DurableTarget {
     ghost use Rattle.tcp_device.specs.State.{ServedState};
-    ghost use Rattle.tcp_queues.specs.Queues.{free_number};
+    ghost use Rattle.tcp_target.specs.Queues.{free_number};
     ghost use Rattle.tcp_served.specs.Meaning.{kept_in_file};
 
     type State = ServedTarget;

@@ -60,7 +60,7 @@ fn save(alloc: Global, image: &Image, file: &mut HandedFile) -> Result<(), Alloc
 
 impl KeptTarget for MemoryTarget {
     ghost use Rattle.tcp_device.specs.State.{ServedState};
-    ghost use Rattle.tcp_queues.specs.Queues.{free_number};
+    ghost use Rattle.tcp_target.specs.Queues.{free_number};
     ghost use Rattle.tcp_served.specs.Files.{keeping_of};
     ghost use Rattle.tcp_served.specs.Meaning.{in_memory};
 

@@ -2,18 +2,18 @@
 
 ghost use Rattle.std.specs.Prelude.{◌≡◌, ◌≤◌, ◌<◌, [], IsTrue, is_some, length, vec_capacity};
 ghost use Rattle.tcp_admin.specs.Admin.{response};
-ghost use Rattle.tcp_queues.specs.Places.{ready_at};
-ghost use Rattle.tcp_queues.specs.Commands.{is_fabrics};
-ghost use Rattle.tcp_queues.specs.Queues.{place_at};
+ghost use Rattle.tcp_target.specs.Places.{ready_at};
+ghost use Rattle.tcp_target.specs.QueueCommands.{is_fabrics};
+ghost use Rattle.tcp_target.specs.Queues.{place_at};
 ghost use Rattle.tcp_target.specs.Commands.{answered_with, completed_by, refused_with, served, served_admin, served_as, served_command, served_fabrics, served_get, served_io, served_set, with_set};
 
 use crate::outcomes::{COMMAND_SEQUENCE_ERROR, refusal, set_outcome, value_outcome};
+use crate::queues::Queues;
+use crate::role::{MOST_CONNECTIONS, Role};
 use crate::target::Target;
 use tcp_admin::{Answer, Controller, MOST_ADMIN_DATA, NamespaceFormat, Subsystem};
-use tcp_associations::{MOST_CONNECTIONS, Role};
 use tcp_connection::Outcome;
 use tcp_pdus::{ENTRY_BYTES, identifier};
-use tcp_queues::Queues;
 use zone_state::Status;
 
 /// The opcode of Fabrics commands (NVMe Base 2.0, 6.1).

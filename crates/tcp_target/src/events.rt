@@ -2,19 +2,19 @@
 
 ghost use Rattle.std.specs.Prelude.{◌≡◌, ◌≤◌, ◌<◌, IfSome, IsTrue, OnSome, is_some, length};
 ghost use Rattle.std.specs.Option.{option_map};
-ghost use Rattle.tcp_associations.specs.Associations.{role_at};
+ghost use Rattle.tcp_target.specs.Associations.{role_at};
 ghost use Rattle.tcp_connection.specs.Queue.{is_ended};
-ghost use Rattle.tcp_queues.specs.Places.{has_room, ready_at};
-ghost use Rattle.tcp_queues.specs.Commands.{connect_data_at, given_to_device};
-ghost use Rattle.tcp_queues.specs.Queues.{free_number, place_at};
+ghost use Rattle.tcp_target.specs.Places.{has_room, ready_at};
+ghost use Rattle.tcp_target.specs.QueueCommands.{connect_data_at, given_to_device};
+ghost use Rattle.tcp_target.specs.Queues.{free_number, place_at};
 ghost use Rattle.tcp_target.specs.Events.{closed, count_of, executed, handed_over, heard_at, heard_on, opened, received, run_ended, sent, taken_by_host};
 
 use crate::clocks::ConnectionClock;
+use crate::place::MOST_KEPT;
+use crate::role::{MOST_CONNECTIONS, Role};
 use crate::target::Target;
-use tcp_associations::{MOST_CONNECTIONS, Role};
 use tcp_connection::Outcome;
 use tcp_pdus::{ENTRY_BYTES, MOST_DATA};
-use tcp_queues::MOST_KEPT;
 
 impl Target {
     /// The number that [`Target::open`] gives next; `None` where there is none.

@@ -1,11 +1,11 @@
 //! Whether there is something to do on a connection.
 
 ghost use Rattle.std.specs.Prelude.{◌≡◌, ◌<◌};
-ghost use Rattle.tcp_queues.specs.Queues.{place_at};
+ghost use Rattle.tcp_target.specs.Queues.{place_at};
 ghost use Rattle.tcp_target.specs.Ready.{is_ready};
 
+use crate::role::MOST_CONNECTIONS;
 use crate::target::Target;
-use tcp_associations::MOST_CONNECTIONS;
 
 impl Target {
     /// Has a host the connection with a number?

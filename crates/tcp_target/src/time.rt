@@ -6,9 +6,9 @@ ghost use Rattle.tcp_target.specs.Target.{connection_clock_at, controller_at, co
 ghost use Rattle.tcp_target.specs.Time.{counted_at, counted_below, is_given_up, is_late, is_late_as, is_lost, patience_of, ticked, waits};
 
 use crate::clocks::{ConnectionClock, ControllerClock, is_past};
+use crate::role::{MOST_CONNECTIONS, Role};
 use crate::target::{PLACES, Target};
 use tcp_admin::Controller;
-use tcp_associations::{MOST_CONNECTIONS, Role};
 
 /// The milliseconds that a host has for a Connect that succeeds (profile).
 const TO_CONNECT: u64 = 30_000;
