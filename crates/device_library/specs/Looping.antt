@@ -28,8 +28,8 @@ use Rattle.handed_file.specs.Handed.{made_calls}
 use Rattle.handed_file.specs.declared.handed_file.HandedFile.{HandedFile}
 use Rattle.tcp_device.specs.declared.keeper.Keeper.{Keeper}
 use Rattle.tcp_target.specs.Queues.{free_number}
-use Rattle.tcp_served.specs.Files.{keeping_of}
-use Rattle.tcp_served.specs.Meaning.{in_memory, kept_in_file}
+use Rattle.tcp_device.specs.FileCalls.{keeping_of}
+use Rattle.tcp_device.specs.LoopMeaning.{in_memory, kept_in_file}
 
 -- how much is told, by number
 abbrev pub level_of : ℕ → Level

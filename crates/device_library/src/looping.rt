@@ -17,9 +17,8 @@ use durable_machine::InFile;
 use handed_file::HandedFile;
 use loop_calls::{AnswerAsked, OperationHead};
 use std::alloc::Global;
-use tcp_device::{Keeper, ServedTarget};
+use tcp_device::{DurableTarget, Keeper, MemoryTarget, ServedTarget, begin_in_file, begin_in_memory};
 use tcp_loop::{KeptTarget, Level, Loop, Options};
-use tcp_served::{DurableTarget, MemoryTarget, begin_in_file, begin_in_memory};
 
 /// How many turns runs are given in a round, where the device is in memory alone: so often hosts are looked at.
 const TURNS: u32 = 32;
