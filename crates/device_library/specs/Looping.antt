@@ -11,9 +11,9 @@ use Rattle.tcp_loop.specs.declared.clock.Clock.{Clock}
 use Rattle.tcp_loop.specs.declared.news.Level.{Level}
 use Rattle.tcp_loop.specs.declared.news.Level.TheVariants as level
 use Rattle.tcp_loop.specs.declared.stage.Stage.{Stage}
-use Rattle.loop_calls.specs.Answers.{answer_in, came_in}
-use Rattle.loop_calls.specs.Operations.{head_of, reads_of, writes_of}
-use Rattle.loop_calls.specs.declared.head.OperationHead.{OperationHead}
+use Rattle.device_library.specs.OperationAnswers.{answer_in, came_in}
+use Rattle.device_library.specs.Operations.{head_of, reads_of, writes_of}
+use Rattle.device_library.specs.declared.operation_head.OperationHead.{OperationHead}
 use Rattle.device_library.specs.Asked.{Asked}
 use Rattle.device_library.specs.Bytes.{IsFront}
 use Rattle.device_library.specs.declared.event.ReplyHead.{ReplyHead}

@@ -1,7 +1,7 @@
 //! Yes and no as bytes, for each place.
 
 ghost use Rattle.std.specs.Prelude.{◌≡◌, map};
-ghost use Rattle.loop_calls.specs.Flags.{byte_of, is_set, padded};
+ghost use Rattle.device_library.specs.Flags.{byte_of, is_set, padded};
 
 use tcp_loop::PLACES;
 

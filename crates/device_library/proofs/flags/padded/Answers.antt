@@ -1,7 +1,7 @@
 use Rattle.std.proofs.Common.{◌≡◌, ◌++◌, ℕ, List, ap, drop, length, min, replicate, rules, take, ◌∙◌, ◌≤◌, arith}
 use Rattle.std.proofs.lemmas.List.{length-replicate}
-use Rattle.loop_calls.proofs.Mapped.{drop_least, take_least}
-use Rattle.loop_calls.proofs.flags.padded.Goals as goal
+use Rattle.device_library.proofs.Mapped.{drop_least, take_least}
+use Rattle.device_library.proofs.flags.padded.Goals as goal
 
 pub returns : goal.returns
 returns c =

@@ -1,10 +1,10 @@
 -- What was told is read back.
 use Rattle.std.proofs.Common.{◌≡◌, ℕ, Bool, true, false, List, [], ◌∷◌, ◌++◌, ◌≤◌, Some, drop, length, map, take, replicate, refl, sym, ap, ◌∙◌, arith}
 use Rattle.std.proofs.lemmas.List.{append-nil, length-map, take_all}
-use Rattle.loop_calls.specs.Answers.{answer_in}
-use Rattle.loop_calls.specs.Flags.{byte_of, is_set, padded}
-use Rattle.loop_calls.specs.Laws.{HasPlaces, operation_in, said_of}
-use Rattle.loop_calls.specs.Operations.{head_of, reads_of, writes_of}
+use Rattle.device_library.specs.OperationAnswers.{answer_in}
+use Rattle.device_library.specs.Flags.{byte_of, is_set, padded}
+use Rattle.device_library.specs.LoopLaws.{HasPlaces, operation_in, said_of}
+use Rattle.device_library.specs.Operations.{head_of, reads_of, writes_of}
 use Rattle.tcp_loop.specs.declared.operation.Answer.{Answer}
 use Rattle.tcp_loop.specs.declared.operation.Answer.TheVariants as answer
 use Rattle.tcp_loop.specs.declared.operation.Operation.{Operation}

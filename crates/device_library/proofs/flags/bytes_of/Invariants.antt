@@ -1,6 +1,6 @@
 use Rattle.std.proofs.Common.{◌≡◌, length, map, take}
-use Rattle.loop_calls.specs.Flags.{byte_of}
-use Rattle.loop_calls.proofs.flags.bytes_of.Given as goal
+use Rattle.device_library.specs.Flags.{byte_of}
+use Rattle.device_library.proofs.flags.bytes_of.Given as goal
 
 abbrev pub invariant-loop-place : goal.invariant-loop-place
 invariant-loop-place l = record {

@@ -1,9 +1,9 @@
 -- Nothing is lost between the loop and C.
 use Rattle.std.specs.Prelude.{ℕ, ◌≡◌, ◌==◌, ◌+◌, Bool, true, false, List, [], Option, Some, None, if◌then◌else◌, length, map}
-use Rattle.loop_calls.specs.Answers.{Said, answer_in}
-use Rattle.loop_calls.specs.Flags.{byte_of, is_set}
-use Rattle.loop_calls.specs.Operations.{head_of, reads_of, writes_of}
-use Rattle.loop_calls.specs.declared.head.OperationHead.{OperationHead}
+use Rattle.device_library.specs.OperationAnswers.{Said, answer_in}
+use Rattle.device_library.specs.Flags.{byte_of, is_set}
+use Rattle.device_library.specs.Operations.{head_of, reads_of, writes_of}
+use Rattle.device_library.specs.declared.operation_head.OperationHead.{OperationHead}
 use Rattle.tcp_loop.specs.declared.operation.Answer.{Answer}
 use Rattle.tcp_loop.specs.declared.operation.Answer.TheVariants as answer
 use Rattle.tcp_loop.specs.declared.operation.Operation.{Operation}

@@ -1,15 +1,16 @@
-//! What C asks of a loop.
+//! The loop of a target as C asks it: which operation is to be made, by numbers and bytes, and what came of it. `target` has the same
+//! numbers in `pifnjarl_loop.h`.
 
 ghost use Rattle.std.specs.Prelude.{◌≡◌, ℕ, List, drop, length};
 ghost use Rattle.tcp_loop.specs.Holding.{Carries, Makes};
 ghost use Rattle.tcp_loop.specs.Kept.{phase_of};
 ghost use Rattle.tcp_loop.specs.Stages.{IsReady, operation_of};
-ghost use Rattle.loop_calls.specs.Answers.{answer_in, came_in, told_by};
-ghost use Rattle.loop_calls.specs.Operations.{head_of, reads_of, writes_of};
+ghost use Rattle.device_library.specs.OperationAnswers.{answer_in, came_in, told_by};
+ghost use Rattle.device_library.specs.Operations.{head_of, reads_of, writes_of};
 
 use crate::answered::{answer_in, came_in};
-use crate::asked::AnswerAsked;
-use crate::head::{OperationHead, head_of, reads_of, writes_of};
+use crate::answer_asked::AnswerAsked;
+use crate::operation_head::{OperationHead, head_of, reads_of, writes_of};
 use tcp_loop::{KeptTarget, Loop, PLACES};
 
 /// The operation that is to be made, and how many bytes it carries.

@@ -1,8 +1,8 @@
 use Rattle.std.proofs.Common.{◌≡◌, length, map, sym, take, ap, ◌∙◌, arith}
 use Rattle.std.proofs.lemmas.List.{length-set, take_all}
-use Rattle.loop_calls.specs.Flags.{is_set}
-use Rattle.loop_calls.proofs.Mapped.{mapped_more}
-use Rattle.loop_calls.proofs.flags.flags_of.Goals as goal
+use Rattle.device_library.specs.Flags.{is_set}
+use Rattle.device_library.proofs.Mapped.{mapped_more}
+use Rattle.device_library.proofs.flags.flags_of.Goals as goal
 
 pub loop-place-preserved : goal.loop-place-preserved
 loop-place-preserved c =

@@ -1,9 +1,9 @@
 //! What came of an operation.
 
 ghost use Rattle.std.specs.Prelude.{◌≡◌, ◌≤◌, length, take};
-ghost use Rattle.loop_calls.specs.Answers.{accepts, answer_in, came_in, ends, ready_in, signals, told_by};
+ghost use Rattle.device_library.specs.OperationAnswers.{accepts, answer_in, came_in, ends, ready_in, signals, told_by};
 
-use crate::asked::AnswerAsked;
+use crate::answer_asked::AnswerAsked;
 use crate::flags::flags_in;
 use tcp_loop::{Answer, INCOMING, Ready};
 

@@ -1,7 +1,7 @@
 -- Answers by their numbers, as target/pifnjarl_loop.h has them.
 use Rattle.std.specs.Prelude.{ℕ, ◌==◌, ◌||◌, Bool, List, [], if◌then◌else◌, map, take}
-use Rattle.loop_calls.specs.Flags.{is_set, padded}
-use Rattle.loop_calls.specs.declared.asked.AnswerAsked.{AnswerAsked}
+use Rattle.device_library.specs.Flags.{is_set, padded}
+use Rattle.device_library.specs.declared.answer_asked.AnswerAsked.{AnswerAsked}
 use Rattle.tcp_loop.specs.declared.operation.Answer.{Answer}
 use Rattle.tcp_loop.specs.declared.operation.Answer.TheVariants as answer
 use Rattle.tcp_loop.specs.declared.operation.Ready.{Ready}

@@ -1,7 +1,7 @@
 -- Operations by their numbers, as target/pifnjarl_loop.h has them.
 use Rattle.std.specs.Prelude.{ℕ, Bool, true, false, List, map, replicate}
-use Rattle.loop_calls.specs.Flags.{byte_of}
-use Rattle.loop_calls.specs.declared.head.OperationHead.{OperationHead}
+use Rattle.device_library.specs.Flags.{byte_of}
+use Rattle.device_library.specs.declared.operation_head.OperationHead.{OperationHead}
 use Rattle.tcp_loop.specs.declared.operation.Operation.{Operation}
 use Rattle.tcp_loop.specs.declared.operation.Operation.TheVariants as operation
 use Rattle.tcp_loop.specs.declared.operation.Which.{Which}

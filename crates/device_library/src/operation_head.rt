@@ -1,7 +1,7 @@
 //! An operation that C is to make.
 
 ghost use Rattle.std.specs.Prelude.{◌≡◌};
-ghost use Rattle.loop_calls.specs.Operations.{head, head_of, is_beside, reads_of, writes_of};
+ghost use Rattle.device_library.specs.Operations.{head, head_of, is_beside, reads_of, writes_of};
 
 use crate::flags::bytes_of;
 use tcp_loop::{Operation, PLACES, Which};
