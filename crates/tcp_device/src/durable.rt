@@ -116,7 +116,7 @@ impl KeptTarget for DurableTarget {
     ghost free = { λ s. free_number s.target.queues };
 
     fn free(&self) -> Option<usize> {
-        self.served.free_number()
+        self.served.target().free_number()
     }
 
     fn open(&mut self, _number: usize) {
@@ -135,7 +135,7 @@ impl KeptTarget for DurableTarget {
     }
 
     fn unsent(&self, number: usize) -> &[u8] {
-        self.served.unsent(number)
+        self.served.target().connection(number).unsent()
     }
 
     fn sent(&mut self, number: usize, count: usize) {
@@ -143,11 +143,11 @@ impl KeptTarget for DurableTarget {
     }
 
     fn is_ended(&self, number: usize) -> bool {
-        self.served.is_ended(number)
+        self.served.target().connection(number).is_ended()
     }
 
     fn is_given_up(&self, number: usize) -> bool {
-        self.served.is_given_up(number)
+        self.served.target().is_given_up(number)
     }
 
     fn close(&mut self, number: usize) {

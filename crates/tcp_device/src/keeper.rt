@@ -96,8 +96,9 @@ impl<S: Store<FrameDevice> + Drop> Keeper<S> {
         ensures same { S.disk self.new.events ≡ S.disk self.old.events }
         ensures kept { S.keeps served.new.device (S.waits self.new.events) (S.disk self.new.events) }
     {
-        let is_ready = served.is_ready(number);
-        match served.given_to_device(number) {
+        let target = served.target();
+        let is_ready = target.is_ready(number);
+        match target.given_to_device(number) {
             Some(entry) => self.submit(served, number, &entry)?,
             None => {
                 served.serve(number);

@@ -73,7 +73,7 @@ impl KeptTarget for MemoryTarget {
     ghost free = { λ s. free_number s.target.queues };
 
     fn free(&self) -> Option<usize> {
-        self.served.free_number()
+        self.served.target().free_number()
     }
 
     fn open(&mut self, _number: usize) {
@@ -89,7 +89,7 @@ impl KeptTarget for MemoryTarget {
     }
 
     fn unsent(&self, number: usize) -> &[u8] {
-        self.served.unsent(number)
+        self.served.target().connection(number).unsent()
     }
 
     fn sent(&mut self, number: usize, count: usize) {
@@ -97,11 +97,11 @@ impl KeptTarget for MemoryTarget {
     }
 
     fn is_ended(&self, number: usize) -> bool {
-        self.served.is_ended(number)
+        self.served.target().connection(number).is_ended()
     }
 
     fn is_given_up(&self, number: usize) -> bool {
-        self.served.is_given_up(number)
+        self.served.target().is_given_up(number)
     }
 
     fn close(&mut self, number: usize) {
@@ -143,6 +143,6 @@ impl KeptTarget for MemoryTarget {
     }
 
     fn finish(&mut self) -> Result<(), AllocError> {
-        save(self.alloc, self.served.image(), &mut self.file)
+        save(self.alloc, self.served.device().image(), &mut self.file)
     }
 }

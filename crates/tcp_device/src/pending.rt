@@ -60,7 +60,7 @@ pub(crate) fn can_go(target: &Target, pending: &Option<PendingCommand>) -> bool
     ensures { result ≡ can_go target.now pending.now }
 {
     match pending {
-        Some(pending) => target.has_room(pending.connection(), 0),
+        Some(pending) => target.connection(pending.connection()).has_room(0),
         None => false,
     }
 }

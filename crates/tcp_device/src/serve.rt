@@ -27,7 +27,7 @@ impl ServedTarget {
         ensures ready { result ≡ is_ready number self.old.target }
         ensures done { Does (Served number) self.old self.new }
     {
-        if !self.target.is_open(number) {
+        if !self.target.connection(number).is_open() {
             return false;
         }
         self.serve_open(number)
@@ -49,23 +49,7 @@ impl ServedTarget {
         is_ready
     }
 
-    /// Is a command ready on a connection?
-    pub fn is_ready(&self, number: usize) -> bool
-        requires { number < MOST_CONNECTIONS }
-        ensures { result ≡ is_ready number self.now.target }
-    {
-        self.target.is_ready(number)
-    }
-
-    /// The entry of the command of a connection that goes to the device next; `None` where none does.
-    pub fn given_to_device(&self, number: usize) -> Option<[u8; ENTRY_BYTES]>
-        requires { number < MOST_CONNECTIONS }
-        ensures { result ≡ option_map (λ execution. execution.entry) (given_to_device number self.now.target.queues) }
-    {
-        self.target.given_to_device(number)
-    }
-
-    /// All of its data, where there is such a command.
+    /// All data of the command that goes to the device next, where there is one.
     pub fn given_data(&self, number: usize) -> &[u8]
         requires { number < MOST_CONNECTIONS }
         ensures { IfSome (given_to_device number self.now.target.queues) (λ execution. result.now ≡ execution.data) }

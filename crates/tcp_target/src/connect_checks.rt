@@ -3,11 +3,12 @@
 ghost use Rattle.std.specs.Prelude.{◌≡◌, IfOk, IsTrue, OnOk, length};
 ghost use Rattle.tcp_target.specs.ConnectChecks.{connect_answer, data_answer, has_controller, has_queue, is_free, is_of_host, queue_answer};
 ghost use Rattle.tcp_target.specs.ConnectRequest.{has_size};
-ghost use Rattle.tcp_target.specs.Connected.{IsAllowed, connected, invalid_in_data, invalid_in_entry, refusal};
+ghost use Rattle.tcp_target.specs.Connected.{IsAllowed, connected, invalid_in_data, invalid_in_entry};
 
 use crate::connect_data::{CONNECT_DATA_BYTES, ConnectData, Host, is_equal, is_same_host};
 use crate::connect_request::{ANY_CONTROLLER, ConnectRequest};
 use crate::connected::{Connected, Controllers, NamedController};
+use crate::outcomes::refusal;
 use crate::qualified_name::name;
 use tcp_connection::{MOST_IN_CAPSULE, Outcome, Queue};
 use zone_state::{Status, StatusType};
@@ -171,17 +172,6 @@ fn connected(request: ConnectRequest, controller: u16) -> Connected
             has_flow_control: request.has_flow_control(),
         },
         in_capsule: MOST_IN_CAPSULE,
-    }
-}
-
-/// A refusal.
-fn refusal(status: Status) -> Outcome
-    ensures { result ≡ refusal status }
-{
-    Outcome {
-        status,
-        dw0: 0,
-        dw1: 0,
     }
 }
 

@@ -1,7 +1,7 @@
 //! How connections and controllers end.
 
 ghost use Rattle.std.specs.Prelude.{◌≡◌, ◌<◌};
-ghost use Rattle.tcp_target.specs.Ends.{closed_at, controller_ended, is_cut_off, readied_at};
+ghost use Rattle.tcp_target.specs.Ends.{closed_at, is_cut_off, readied_at};
 
 use crate::queues::Queues;
 use tcp_target::{MOST_CONNECTIONS, Role};
@@ -22,13 +22,6 @@ impl Queues {
         ensures { self.new ≡ readied_at id is_ready self.old }
     {
         self.associations.set_ready(id, is_ready);
-    }
-
-    /// Ends a controller: the connections of its queues are cut off.
-    pub fn end_controller(&mut self, id: u16)
-        ensures { self.new ≡ controller_ended id self.old }
-    {
-        self.associations.end(id);
     }
 
     /// Is a connection cut off? Then it is to be closed at once, whatever is to be sent.

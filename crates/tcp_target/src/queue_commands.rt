@@ -3,7 +3,7 @@
 ghost use Rattle.std.specs.Prelude.{◌≡◌, ◌≤◌, ◌<◌, IsTrue, OnSome, is_some, length};
 ghost use Rattle.std.specs.Option.{option_map};
 ghost use Rattle.tcp_target.specs.Places.{ready_at};
-ghost use Rattle.tcp_target.specs.QueueCommands.{answered, connect_answer_at, connect_data_at, connected, given_to_device, handed_over_at, is_fabrics, is_for_device, kept_at};
+ghost use Rattle.tcp_target.specs.QueueCommands.{answered, connect_answer_at, connected, given_to_device, handed_over_at, is_fabrics, is_for_device, kept_at};
 ghost use Rattle.tcp_target.specs.Queues.{place_at};
 
 use crate::queues::Queues;
@@ -15,29 +15,13 @@ use tcp_target::{ConnectRequest, Connected, MOST_CONNECTIONS};
 const FABRICS_COMMAND: u8 = 0x7F;
 
 /// Is it a Fabrics command?
-fn is_fabrics(entry: &[u8; ENTRY_BYTES]) -> bool
+pub(crate) fn is_fabrics(entry: &[u8; ENTRY_BYTES]) -> bool
     ensures { result ≡ is_fabrics entry.now }
 {
     entry[0] == FABRICS_COMMAND
 }
 
 impl Queues {
-    /// The entry of the command that is ready on a connection, whoever executes it.
-    pub fn ready(&self, number: usize) -> Option<[u8; ENTRY_BYTES]>
-        requires { number < MOST_CONNECTIONS }
-        ensures { result ≡ option_map (λ execution. execution.entry) (ready_at (place_at number self.now)) }
-    {
-        self.places[number].ready()
-    }
-
-    /// All of its data.
-    pub fn ready_data(&self, number: usize) -> &[u8]
-        requires { number < MOST_CONNECTIONS }
-        ensures { result.now ≡ connect_data_at number self.now }
-    {
-        self.places[number].ready_data()
-    }
-
     /// Does the device execute a command that is ready on a connection: is that a live I/O queue's, and the command no Fabrics command?
     pub fn is_for_device(&self, number: usize, entry: &[u8; ENTRY_BYTES]) -> bool
         ensures { result ≡ is_for_device number entry.now self.now }
@@ -45,13 +29,13 @@ impl Queues {
         self.associations.is_live(number) && !is_fabrics(entry)
     }
 
-    /// The entry that goes to the device next. [`Queues::ready_data`] is its data.
+    /// The entry that goes to the device next. [`Place::ready_data`] is its data.
     pub fn given_to_device(&self, number: usize) -> Option<[u8; ENTRY_BYTES]>
         requires { number < MOST_CONNECTIONS }
         ensures entry { result ≡ option_map (λ execution. execution.entry) (given_to_device number self.now) }
         ensures ready { OnSome result (IsTrue (is_some (ready_at (place_at number self.now)))) }
     {
-        match self.ready(number) {
+        match self.places[number].ready() {
             Some(entry) if self.is_for_device(number, &entry) => Some(entry),
             Some(_) | None => None,
         }

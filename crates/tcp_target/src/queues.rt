@@ -2,7 +2,6 @@
 
 ghost use Rattle.std.specs.Prelude.{◌≡◌, ◌≤◌, ◌<◌, IfOk, IfSome, length, position, replicate};
 ghost use Rattle.tcp_target.specs.Associations.{role_at};
-ghost use Rattle.tcp_connection.specs.Queue.{is_ended};
 ghost use Rattle.tcp_target.specs.PlaceEvents.{received};
 ghost use Rattle.tcp_target.specs.Places.{is_free, vacant};
 ghost use Rattle.tcp_target.specs.Queues.{free_number, no_queues, opened_at, place_at, received_at, sent_at};
@@ -78,15 +77,7 @@ impl Queues {
         self.places[number].receive(piece)
     }
 
-    /// What is to be sent on a connection.
-    pub fn unsent(&self, number: usize) -> &[u8]
-        requires { number < MOST_CONNECTIONS }
-        ensures { result.now ≡ (place_at number self.now).unsent }
-    {
-        self.places[number].unsent()
-    }
-
-    /// Forgets the first bytes of it, which were sent.
+    /// Forgets the first bytes of what is to be sent on a connection, which were sent.
     pub fn sent(&mut self, number: usize, count: usize)
         requires number { number < MOST_CONNECTIONS }
         requires count { count ≤ length (place_at number self.old).unsent }
@@ -95,20 +86,12 @@ impl Queues {
         self.places[number].sent(count);
     }
 
-    /// Has a host this connection?
-    pub fn is_open(&self, number: usize) -> bool
+    /// The place of a connection.
+    pub fn place(&self, number: usize) -> &Place
         requires { number < MOST_CONNECTIONS }
-        ensures { result ≡ (place_at number self.now).is_open }
+        ensures { result.now ≡ place_at number self.now }
     {
-        self.places[number].is_open()
-    }
-
-    /// Has a connection ended? Then it is to be closed once all is sent.
-    pub fn is_ended(&self, number: usize) -> bool
-        requires { number < MOST_CONNECTIONS }
-        ensures { result ≡ is_ended (place_at number self.now).connection.phase }
-    {
-        self.places[number].is_ended()
+        &self.places[number]
     }
 
     /// What a connection is for.

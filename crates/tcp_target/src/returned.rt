@@ -5,7 +5,7 @@ ghost use Rattle.tcp_target.specs.Places.{has_room};
 ghost use Rattle.tcp_target.specs.QueueCommands.{executed_at, fits, is_success, result_of, run_ended_at};
 ghost use Rattle.tcp_target.specs.Queues.{place_at};
 
-use crate::place::MOST_KEPT;
+use crate::outcomes::refusal;
 use crate::queues::Queues;
 use tcp_connection::Outcome;
 use tcp_pdus::{Direction, ENTRY_BYTES, MOST_DATA, SglDescriptor, identifier};
@@ -42,27 +42,13 @@ fn result_of<'a>(
     ensures bytes { result.1.now ≡ (result_of entry.now outcome bytes.now).1 }
 {
     if is_success(outcome.status) && !fits(entry, bytes.len()) {
-        let refusal = Outcome {
-            status: DATA_SGL_LENGTH_INVALID,
-            dw0: 0,
-            dw1: 0,
-        };
-        (refusal, &[])
+        (refusal(DATA_SGL_LENGTH_INVALID), &[])
     } else {
         (outcome, bytes)
     }
 }
 
 impl Queues {
-    /// Is there room on a connection for a completion with so many bytes of data?
-    pub fn has_room(&self, number: usize, size: usize) -> bool
-        requires number { number < MOST_CONNECTIONS }
-        requires size { size ≤ MOST_KEPT }
-        ensures { result ≡ has_room size (place_at number self.now) }
-    {
-        self.places[number].has_room(size)
-    }
-
     /// Takes what the device gave at once for an entry that was handed over, and completes the command, unless its connection was
     /// closed. Data that wasn't asked for is refused (Data SGL Length Invalid).
     pub fn execute(
