@@ -1,5 +1,5 @@
 /* The loop of a target: which operation is to be made next, by what came of the last. The library decides, and C makes the operations.
-   crates/loop_calls has the same numbers. */
+   crates/device_library has the same numbers. */
 #ifndef PIFNJARL_LOOP_H
 #define PIFNJARL_LOOP_H
 

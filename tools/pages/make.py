@@ -39,7 +39,7 @@ PROMISE_NOTHING = re.compile(r"bench_\w+|\w+_tests|test_inputs")
 PUBLISHED = {
     *("program_interface", "nvme_entry", "image_store", "image_text", "zns_commands", "ebpf_decode", "ebpf_asm", "interp", "verified_run"),
     *("verifier", "question_words", "question_compiler", "emit_append", "durable_device", "device_serve"),
-    *("device_events", "runner", "device_library", "tcp_served", "event_frames", "event_text", "command_images"),
+    *("device_events", "runner", "device_library", "tcp_device", "event_frames", "event_text", "command_images"),
     *("command_exec", "command_query", "command_serve", "command_programs", "command_entry", "command_explain", "zscli"),
 }
 

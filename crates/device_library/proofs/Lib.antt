@@ -6,3 +6,5 @@ mod Knowing
 mod Beginning
 mod Turning
 mod OneByOne
+mod Mapped
+mod ReadBack

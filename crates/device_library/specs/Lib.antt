@@ -15,4 +15,8 @@ pub mod Sessions
 pub mod Opening
 pub mod Calls
 pub mod Lying
+pub mod Flags
+pub mod Operations
+pub mod OperationAnswers
+pub mod LoopLaws
 pub mod Looping

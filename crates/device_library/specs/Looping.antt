@@ -11,9 +11,9 @@ use Rattle.tcp_loop.specs.declared.clock.Clock.{Clock}
 use Rattle.tcp_loop.specs.declared.news.Level.{Level}
 use Rattle.tcp_loop.specs.declared.news.Level.TheVariants as level
 use Rattle.tcp_loop.specs.declared.stage.Stage.{Stage}
-use Rattle.loop_calls.specs.Answers.{answer_in, came_in}
-use Rattle.loop_calls.specs.Operations.{head_of, reads_of, writes_of}
-use Rattle.loop_calls.specs.declared.head.OperationHead.{OperationHead}
+use Rattle.device_library.specs.OperationAnswers.{answer_in, came_in}
+use Rattle.device_library.specs.Operations.{head_of, reads_of, writes_of}
+use Rattle.device_library.specs.declared.operation_head.OperationHead.{OperationHead}
 use Rattle.device_library.specs.Asked.{Asked}
 use Rattle.device_library.specs.Bytes.{IsFront}
 use Rattle.device_library.specs.declared.event.ReplyHead.{ReplyHead}
@@ -27,9 +27,9 @@ use Rattle.durable_machine.specs.declared.in_file.InFile.{InFile}
 use Rattle.handed_file.specs.Handed.{made_calls}
 use Rattle.handed_file.specs.declared.handed_file.HandedFile.{HandedFile}
 use Rattle.tcp_device.specs.declared.keeper.Keeper.{Keeper}
-use Rattle.tcp_queues.specs.Queues.{free_number}
-use Rattle.tcp_served.specs.Files.{keeping_of}
-use Rattle.tcp_served.specs.Meaning.{in_memory, kept_in_file}
+use Rattle.tcp_target.specs.Queues.{free_number}
+use Rattle.tcp_device.specs.FileCalls.{keeping_of}
+use Rattle.tcp_device.specs.LoopMeaning.{in_memory, kept_in_file}
 
 -- how much is told, by number
 abbrev pub level_of : ℕ → Level

@@ -8,18 +8,19 @@ ghost use Rattle.device_library.specs.Asked.{told_by};
 ghost use Rattle.device_library.specs.Looping.{Answers, AnswersTo, BeginsInFile, BeginsInMemory, HasBegun, IsStanding, LoopLent, LoopNow, ServingLent, Stands, level_of, reply_of};
 ghost use Rattle.device_library.specs.Target.{WillBeKept, promised};
 
+use crate::answer_asked::AnswerAsked;
 use crate::asked::AskedBy;
 use crate::event::ReplyHead;
 use crate::kind::{LoopKind, nothing};
+use crate::loop_calls;
+use crate::operation_head::OperationHead;
 use crate::put::put;
 use crate::target::Target;
 use durable_machine::InFile;
 use handed_file::HandedFile;
-use loop_calls::{AnswerAsked, OperationHead};
 use std::alloc::Global;
-use tcp_device::{Keeper, ServedTarget};
+use tcp_device::{DurableTarget, Keeper, MemoryTarget, ServedTarget, begin_in_file, begin_in_memory};
 use tcp_loop::{KeptTarget, Level, Loop, Options};
-use tcp_served::{DurableTarget, MemoryTarget, begin_in_file, begin_in_memory};
 
 /// How many turns runs are given in a round, where the device is in memory alone: so often hosts are looked at.
 const TURNS: u32 = 32;

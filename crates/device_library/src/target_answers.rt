@@ -51,7 +51,7 @@ fn answer(
         TargetKind::Done => done(session),
         TargetKind::Failed => failed(session),
         TargetKind::Name => as_number(session.name(alloc, asked.piece)),
-        TargetKind::Nqn => put(session.served.nqn(), out),
+        TargetKind::Nqn => put(session.served.target().nqn(), out),
     }
 }
 

@@ -7,9 +7,9 @@ use Rattle.tcp_pdus.specs.declared.received.HostPdu.TheVariants.{CapsuleCmd}
 use Rattle.tcp_pdus.specs.Initialize.{initialize_checked, initialize_request_in}
 use Rattle.tcp_pdus.specs.Received.{header_bytes}
 use Rattle.tcp_pdus.specs.Sent.{c2h_term_req}
-use Rattle.tcp_receiver.specs.declared.expected.Progress.{Progress}
-use Rattle.tcp_receiver.specs.declared.expected.Progress.TheVariants.{Whole}
-use Rattle.tcp_receiver.specs.Receiving.{IsDataOf, IsHeaderOf, ReceiverState}
+use Rattle.tcp_connection.specs.declared.expected.Progress.{Progress}
+use Rattle.tcp_connection.specs.declared.expected.Progress.TheVariants.{Whole}
+use Rattle.tcp_connection.specs.Receiving.{IsDataOf, IsHeaderOf, ReceiverState}
 use Rattle.tcp_connection.specs.declared.state.ConnectionState.{ConnectionState}
 use Rattle.tcp_connection.specs.Commands.{count_of, has_command}
 use Rattle.tcp_connection.specs.Dealing.{commanded, commanded_by, initialized, initialized_by, may_come}

@@ -9,10 +9,10 @@ use Rattle.tcp_pdus.specs.declared.fatal_error.FatalError.{FatalError}
 use Rattle.tcp_pdus.specs.declared.fatal_error.FatalError.TheVariants.{PduSequence}
 use Rattle.tcp_pdus.specs.declared.received.HostPdu.TheVariants.{IcReq, H2cTermReq, CapsuleCmd, H2cData}
 use Rattle.tcp_pdus.specs.Initialize.{initialize_checked, initialize_request_in}
-use Rattle.tcp_receiver.specs.declared.expected.Progress.{Progress}
-use Rattle.tcp_receiver.specs.declared.expected.Progress.TheVariants.{Partial, Whole, Failed}
-use Rattle.tcp_receiver.specs.Receiving as receiving
-use Rattle.tcp_receiver.specs.Transfers.{free_tag}
+use Rattle.tcp_connection.specs.declared.expected.Progress.{Progress}
+use Rattle.tcp_connection.specs.declared.expected.Progress.TheVariants.{Partial, Whole, Failed}
+use Rattle.tcp_connection.specs.Receiving as receiving
+use Rattle.tcp_connection.specs.Transfers.{free_tag}
 use Rattle.tcp_pdus.specs.Direction.{identifier_of}
 use Rattle.tcp_connection.specs.declared.queue.Outcome.{Outcome}
 use Rattle.tcp_connection.specs.declared.queue.Phase.{Phase}

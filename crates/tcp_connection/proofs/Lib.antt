@@ -1,12 +1,25 @@
+mod Apart
+mod Comes
+mod CommonHeaders
+mod DataParts
+mod Filling
+mod Growing
+mod PiecesJoined
+mod Lengths
+mod Pieces
+mod Readings
+mod Receivers
+mod Standing
+mod WholeHeaders
 mod Answering
 mod Dealt
 mod Held
 mod Identifiers
-mod Joined
+mod StepsJoined
 mod Order
 mod Places
 pub mod Proved
 mod Quiet
 mod Ready
 mod Settled
-mod Transfers
+mod TransfersKept

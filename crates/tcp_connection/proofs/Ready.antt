@@ -3,8 +3,8 @@ use Rattle.std.proofs.Common.{◌≡◌, ℕ, true, false, cond, List, [], ◌�
 use Rattle.std.specs.Option.{option_map}
 use Rattle.std.specs.Prelude.{find}
 use Rattle.tcp_pdus.specs.Direction.{identifier_of}
-use Rattle.tcp_receiver.specs.Receiving.{ReceiverState, forgetting}
-use Rattle.tcp_receiver.specs.Transfers.{Transfer, data_of_command}
+use Rattle.tcp_connection.specs.Receiving.{ReceiverState, forgetting}
+use Rattle.tcp_connection.specs.Transfers.{Transfer, data_of_command}
 use Rattle.tcp_connection.specs.declared.waiting.KeptCommand.{KeptCommand}
 use Rattle.tcp_connection.specs.declared.waiting.WaitingEntry.{WaitingEntry}
 use Rattle.tcp_connection.specs.declared.state.ConnectionState.{ConnectionState}

@@ -1,7 +1,7 @@
 -- A connection, what it takes of a piece of the stream, and what it sends.
 use Rattle.std.specs.Prelude.{ℕ, Bool, not, ◌&&◌, List, [], is_some, if◌then◌else◌}
-use Rattle.tcp_receiver.specs.Receiving.{fresh}
-use Rattle.tcp_receiver.specs.Receiving as receiving
+use Rattle.tcp_connection.specs.Receiving.{fresh}
+use Rattle.tcp_connection.specs.Receiving as receiving
 use Rattle.tcp_connection.specs.declared.queue.Phase.TheVariants.{Initializing}
 use Rattle.tcp_connection.specs.declared.queue.TheConstants.{UNCONNECTED}
 use Rattle.tcp_connection.specs.declared.state.ConnectionState.{ConnectionState}

@@ -6,11 +6,11 @@ use Rattle.tcp_pdus.specs.declared.received.HostPdu.TheVariants.{IcReq, H2cTermR
 use Rattle.tcp_pdus.specs.declared.transfer.ReadyToTransfer.{ReadyToTransfer}
 use Rattle.tcp_pdus.specs.Initialize.{initialize_checked, initialize_request_in}
 use Rattle.tcp_pdus.specs.Sent.{ic_resp, r2t}
-use Rattle.tcp_receiver.specs.declared.expected.Progress.{Progress}
-use Rattle.tcp_receiver.specs.declared.expected.Progress.TheVariants.{Partial, Whole, Failed}
-use Rattle.tcp_receiver.specs.declared.receiver.TheConstants.{MOST_IN_CAPSULE}
-use Rattle.tcp_receiver.specs.Receiving.{awaiting, expecting, next}
-use Rattle.tcp_receiver.specs.Transfers.{Transfer, free_tag, has_transfer}
+use Rattle.tcp_connection.specs.declared.expected.Progress.{Progress}
+use Rattle.tcp_connection.specs.declared.expected.Progress.TheVariants.{Partial, Whole, Failed}
+use Rattle.tcp_connection.specs.declared.receiver.TheConstants.{MOST_IN_CAPSULE}
+use Rattle.tcp_connection.specs.Receiving.{awaiting, expecting, next}
+use Rattle.tcp_connection.specs.Transfers.{Transfer, free_tag, has_transfer}
 use Rattle.zone_state.specs.declared.status.Status.{Status}
 use Rattle.tcp_pdus.specs.Direction.{identifier_of}
 use Rattle.tcp_pdus.specs.Sgl.{wanted_checked}

@@ -2,8 +2,8 @@
 use Rattle.std.specs.Prelude.{ℕ, ◌≡◌, List, [], ◌∷◌, ◌++◌, Option, Some, None, if◌then◌else◌}
 use Rattle.tcp_pdus.specs.Direction.{identifier_of}
 use Rattle.tcp_pdus.specs.Sent.{c2h_data}
-use Rattle.tcp_receiver.specs.Receiving.{IsBetween, ReceiverState, awaiting, forgetting}
-use Rattle.tcp_receiver.specs.Transfers.{Transfer, data_of_command}
+use Rattle.tcp_connection.specs.Receiving.{IsBetween, ReceiverState, awaiting, forgetting}
+use Rattle.tcp_connection.specs.Transfers.{Transfer, data_of_command}
 use Rattle.tcp_connection.specs.declared.queue.Outcome.{Outcome}
 use Rattle.tcp_connection.specs.declared.queue.Phase.{Phase}
 use Rattle.tcp_connection.specs.declared.queue.Phase.TheVariants.{Initializing, Open, Ended}

@@ -1,3 +1,7 @@
+pub mod Transfers
+pub mod Reading
+pub mod Receiving
+pub mod ReceiverLaws
 pub mod Commands
 pub mod Queue
 pub mod Sending

@@ -1,3 +1,5 @@
 -- What private functions hand on to each other; no public contract speaks of it.
 pub mod Commands
 pub mod Connection
+pub mod Parts
+pub mod Transfers

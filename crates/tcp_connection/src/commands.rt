@@ -3,16 +3,16 @@
 ghost use Rattle.std.specs.Prelude.{◌≡◌, ◌==◌, ◌<◌, ◌≤◌, ◌++◌, ◌∷◌, [], IfOk, drop, find, is_some, vec_capacity, vec_len};
 ghost use Rattle.std.specs.Option.{option_map};
 ghost use Rattle.tcp_pdus.specs.declared.received.HostPdu.TheVariants.{CapsuleCmd};
-ghost use Rattle.tcp_receiver.specs.declared.expected.Progress.TheVariants.{Whole};
-ghost use Rattle.tcp_receiver.specs.Receiving.{IsBetween, next};
+ghost use Rattle.tcp_connection.specs.declared.expected.Progress.TheVariants.{Whole};
+ghost use Rattle.tcp_connection.specs.Receiving.{IsBetween, next};
 ghost use Rattle.tcp_connection.specs.Commands.{count_of, first_of, has_command, is_running, none, place_of, removed, started, waiting_with, without};
 ghost use Rattle.tcp_connection.specs.Dealing.{is_unasked};
 ghost use Rattle.tcp_connection.specs.steps.Commands.{data_in, entry_of};
 
+use crate::receiver::Receiver;
 use crate::waiting::{Waiting, WaitingEntry};
 use std::alloc::{AllocError, Global};
 use std::marker::Model;
-use tcp_receiver::Receiver;
 
 /// The most entries of a queue, and so the most commands without a completion (MQES, NVMe Base 2.0, 3.1.3.1; its value is profile).
 pub const MOST_ENTRIES: usize = 128;

@@ -2,7 +2,7 @@
 
 ghost use Rattle.std.specs.Prelude.{◌≡◌, ◌≤◌, ◌<◌, ◌+◌, IfOk, IsTrue, is_some, length, vec_capacity, vec_len};
 ghost use Rattle.std.specs.Option.{option_map};
-ghost use Rattle.tcp_receiver.specs.Receiving.{IsBetween};
+ghost use Rattle.tcp_connection.specs.Receiving.{IsBetween};
 ghost use Rattle.tcp_connection.specs.Connection.{begun, taken};
 ghost use Rattle.tcp_connection.specs.Executing.{completed, connected, data_of, gone, ready};
 ghost use Rattle.tcp_connection.specs.Queue.{is_ended};
@@ -12,11 +12,11 @@ use crate::commands::{Commands, MOST_ENTRIES};
 use crate::dealing::MOST_SENT;
 use crate::executing::MOST_BESIDE_DATA;
 use crate::queue::{Outcome, Phase, Queue, UNCONNECTED};
+use crate::receiver::{MOST_IN_CAPSULE, Receiver};
 use crate::state::ConnectionState;
 use std::alloc::{AllocError, Global};
 use std::marker::Model;
 use tcp_pdus::{ENTRY_BYTES, MOST_DATA};
-use tcp_receiver::{MOST_IN_CAPSULE, Receiver};
 
 /// One connection of a host, whose bytes come in any pieces. What it sends is a function of what has come, and of what its commands
 /// came to. It takes no memory but that of [`Connection::new`], and what it sends is added where there is room.

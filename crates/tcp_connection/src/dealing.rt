@@ -2,14 +2,16 @@
 
 ghost use Rattle.std.specs.Prelude.{◌≡◌, ◌≤◌, ◌<◌, ◌+◌, [], Ok, length, drop, take, vec_capacity, vec_len};
 ghost use Rattle.tcp_pdus.specs.declared.received.HostPdu.TheVariants.{CapsuleCmd, IcReq};
-ghost use Rattle.tcp_receiver.specs.declared.expected.Progress.TheVariants.{Whole};
-ghost use Rattle.tcp_receiver.specs.Receiving.{IsBetween};
+ghost use Rattle.tcp_connection.specs.declared.expected.Progress.TheVariants.{Whole};
+ghost use Rattle.tcp_connection.specs.Receiving.{IsBetween};
 ghost use Rattle.tcp_connection.specs.Commands.{count_of};
 ghost use Rattle.tcp_connection.specs.Dealing.{asked, asked_for, checked, commanded, commanded_by, dealt, initialized, inside, judged, looked, may_come, queued, refusal, unasked, with_next};
 ghost use Rattle.tcp_connection.specs.Sending.{Sends, answered};
 
 use crate::commands::MOST_ENTRIES;
+use crate::expected::Progress;
 use crate::queue::{Outcome, Phase};
+use crate::receiver::MOST_IN_CAPSULE;
 use crate::state::ConnectionState;
 use crate::waiting::WaitingEntry;
 use tcp_pdus::{
@@ -17,7 +19,6 @@ use tcp_pdus::{
     ReadyToTransfer, TransferLength, identifier, push_c2h_term_req, push_ic_resp, push_r2t,
     wanted_data,
 };
-use tcp_receiver::{MOST_IN_CAPSULE, Progress};
 use zone_state::Status;
 
 /// The most bytes that are sent for one PDU: a C2HTermReq with the longest header.

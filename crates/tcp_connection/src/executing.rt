@@ -2,7 +2,7 @@
 
 ghost use Rattle.std.specs.Prelude.{◌≡◌, ◌≤◌, ◌<◌, ◌+◌, Some, length, vec_capacity, vec_len};
 ghost use Rattle.std.specs.Option.{option_map};
-ghost use Rattle.tcp_receiver.specs.Receiving.{IsBetween};
+ghost use Rattle.tcp_connection.specs.Receiving.{IsBetween};
 ghost use Rattle.tcp_connection.specs.Commands.{first_of};
 ghost use Rattle.tcp_connection.specs.Executing.{completed, completed_open, data_of, data_sent, gone, ready, waiting_ready, with_started};
 ghost use Rattle.tcp_connection.specs.steps.Commands.{entry_of, entry_once_come, has_come};

@@ -2,6 +2,17 @@
 
 ghost use Rattle.tcp_connection.specs.Laws.{CompletedOnce, IdentifiersDiffer, StepsJoin, TransfersAreKept};
 ghost use Rattle.tcp_connection.specs.Order.{CommandsGoInOrder};
+ghost use Rattle.tcp_connection.specs.ReceiverLaws.{PiecesJoin, TransfersStayApart};
+
+/// What a receiver comes to doesn't depend on how the stream is cut into pieces.
+pub fn pieces_join()
+    ensures { PiecesJoin }
+{}
+
+/// What comes for one R2T changes nothing of what came for another.
+pub fn transfers_stay_apart()
+    ensures { TransfersStayApart }
+{}
 
 /// What a connection comes to, and what it sends, doesn't depend on how its stream is cut into pieces.
 pub fn steps_join()

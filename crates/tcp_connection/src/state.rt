@@ -5,8 +5,8 @@ ghost use Rattle.tcp_connection.specs.Sending.{Sends, answered, ended, next_head
 
 use crate::commands::Commands;
 use crate::queue::{Outcome, Phase, Queue};
+use crate::receiver::Receiver;
 use tcp_pdus::{Answer, push_capsule_resp};
-use tcp_receiver::Receiver;
 
 /// What a connection has.
 #[derive(Drop)]

@@ -5,17 +5,17 @@ ghost use Rattle.std.specs.List.{All, list_any};
 ghost use Rattle.std.specs.Option.{option_copied, option_map};
 ghost use Rattle.tcp_pdus.specs.Direction.{identifier_of};
 ghost use Rattle.tcp_pdus.specs.declared.received.HostPdu.TheVariants.{CapsuleCmd};
-ghost use Rattle.tcp_receiver.specs.declared.expected.Progress.TheVariants.{Whole};
-ghost use Rattle.tcp_receiver.specs.Receiving.{IsBetween, next};
+ghost use Rattle.tcp_connection.specs.declared.expected.Progress.TheVariants.{Whole};
+ghost use Rattle.tcp_connection.specs.Receiving.{IsBetween, next};
 ghost use Rattle.tcp_connection.specs.Commands.{first_in};
 ghost use Rattle.tcp_connection.specs.Dealing.{is_unasked};
 ghost use Rattle.tcp_connection.specs.steps.Commands.{HasRooms, IsRoom, MakesRooms, data_in, entry_of, is_unasked_entry, waiting_of};
 
 use crate::commands::MOST_ENTRIES;
+use crate::receiver::{MOST_IN_CAPSULE, Receiver};
 use std::alloc::{AllocError, Global};
 use std::marker::Model;
 use tcp_pdus::{ENTRY_BYTES, TransferLength, identifier};
-use tcp_receiver::{MOST_IN_CAPSULE, Receiver};
 
 /// A command that waits for its turn, but for the data in its capsule.
 #[derive(Clone, Copy)]

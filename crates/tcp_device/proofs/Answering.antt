@@ -16,14 +16,14 @@ use Rattle.tcp_connection.specs.Connection.{Step, taken, took}
 use Rattle.tcp_connection.specs.Executing.{Execution, completed_in, data_sent, waiting_ready}
 use Rattle.tcp_connection.specs.Queue.{is_ended}
 use Rattle.tcp_connection.specs.Sending.{answered}
-use Rattle.tcp_associations.specs.declared.role.Role.{Role}
-use Rattle.tcp_associations.specs.declared.role.Role.TheVariants as role
-use Rattle.tcp_associations.specs.Associations.{role_at}
-use Rattle.tcp_queues.specs.Commands.{given_to_device}
-use Rattle.tcp_queues.specs.Events.{completed_at, executed, returned, sent, stepped}
-use Rattle.tcp_queues.specs.Events as places
-use Rattle.tcp_queues.specs.Places.{PlaceState, goes_on, is_free, vacant}
-use Rattle.tcp_queues.specs.Queues.{QueuesState, free_number, opened_at, place_at, received_at, sent_at, with_place}
+use Rattle.tcp_target.specs.declared.role.Role.{Role}
+use Rattle.tcp_target.specs.declared.role.Role.TheVariants as role
+use Rattle.tcp_target.specs.Associations.{role_at}
+use Rattle.tcp_target.specs.QueueCommands.{given_to_device}
+use Rattle.tcp_target.specs.PlaceEvents.{completed_at, executed, returned, sent, stepped}
+use Rattle.tcp_target.specs.PlaceEvents as places
+use Rattle.tcp_target.specs.Places.{PlaceState, goes_on, is_free, vacant}
+use Rattle.tcp_target.specs.Queues.{QueuesState, free_number, opened_at, place_at, received_at, sent_at, with_place}
 use Rattle.tcp_target.specs.Commands.{served}
 use Rattle.tcp_target.specs.Events.{count_of, heard_at, heard_on}
 use Rattle.tcp_target.specs.Events as target

@@ -17,7 +17,7 @@ use Rattle.device_meaning.specs.Judging.{interval_judge}
 use Rattle.device_meaning.specs.State.{State}
 use Rattle.device_meaning.proofs.Proved.{HoldsOfEach, of_entry}
 use Rattle.tcp_pdus.specs.Direction.{identifier_of}
-use Rattle.tcp_receiver.specs.Transfers.{Transfer, free_tag}
+use Rattle.tcp_connection.specs.Transfers.{Transfer, free_tag}
 use Rattle.tcp_connection.specs.declared.queue.Outcome.{Outcome}
 use Rattle.tcp_connection.specs.declared.queue.Phase.{Phase}
 use Rattle.tcp_connection.specs.declared.queue.Phase.TheVariants.{Open}
@@ -33,19 +33,19 @@ use Rattle.tcp_admin.specs.Properties.{got, set_by, set_result}
 use Rattle.tcp_admin.specs.declared.answer.Answer.{Answer}
 use Rattle.tcp_admin.specs.declared.answer.Answer.TheVariants.{Completed, Kept}
 use Rattle.tcp_admin.specs.declared.controller.Controller.{Controller}
-use Rattle.tcp_associations.specs.Associations.{role_at}
-use Rattle.tcp_associations.specs.Connected.{refusal, success}
-use Rattle.tcp_associations.specs.Request.{request_in}
-use Rattle.tcp_associations.specs.declared.connected.Connected.{Connected}
-use Rattle.tcp_associations.specs.declared.request.ConnectRequest.{ConnectRequest}
-use Rattle.tcp_associations.specs.declared.role.Role.{Role}
-use Rattle.tcp_associations.specs.declared.role.Role.TheVariants as role
-use Rattle.tcp_queues.specs.Commands.{connect_answer_at, connect_data_at, connect_place, connected_by, given_by, given_to_device, is_fabrics, is_for_device, result_of}
-use Rattle.tcp_queues.specs.Commands as queues
-use Rattle.tcp_queues.specs.Ends.{is_cut_off, is_ended_role}
-use Rattle.tcp_queues.specs.Events.{answered_at, completed_at, connected_at, executed, handed_over, returned}
-use Rattle.tcp_queues.specs.Places.{PlaceState, goes_on, ready_at, vacant}
-use Rattle.tcp_queues.specs.Queues.{QueuesState, place_at, with_place}
+use Rattle.tcp_target.specs.Associations.{role_at}
+use Rattle.tcp_target.specs.Connected.{refusal, success}
+use Rattle.tcp_target.specs.ConnectRequest.{request_in}
+use Rattle.tcp_target.specs.declared.connected.Connected.{Connected}
+use Rattle.tcp_target.specs.declared.connect_request.ConnectRequest.{ConnectRequest}
+use Rattle.tcp_target.specs.declared.role.Role.{Role}
+use Rattle.tcp_target.specs.declared.role.Role.TheVariants as role
+use Rattle.tcp_target.specs.QueueCommands.{connect_answer_at, connect_data_at, connect_place, connected_by, given_by, given_to_device, is_fabrics, is_for_device, result_of}
+use Rattle.tcp_target.specs.QueueCommands as queues
+use Rattle.tcp_target.specs.Ends.{is_cut_off, is_ended_role}
+use Rattle.tcp_target.specs.PlaceEvents.{answered_at, completed_at, connected_at, executed, handed_over, returned}
+use Rattle.tcp_target.specs.Places.{PlaceState, goes_on, ready_at, vacant}
+use Rattle.tcp_target.specs.Queues.{QueuesState, place_at, with_place}
 use Rattle.tcp_target.specs.declared.outcomes.TheConstants.{COMMAND_SEQUENCE_ERROR}
 use Rattle.tcp_target.specs.Commands.{completed_by as ends_by, is_connect, refused_with, served, served_admin, served_as, served_by, served_fabrics, served_get, served_io, served_set, served_unconnected, set_outcome, value_outcome, with_made}
 use Rattle.tcp_target.specs.Events as target

@@ -12,14 +12,14 @@ use Rattle.tcp_pdus.specs.Direction.{identifier_of}
 use Rattle.tcp_connection.specs.declared.queue.Outcome.{Outcome}
 use Rattle.tcp_connection.specs.Connection.{taken}
 use Rattle.tcp_connection.specs.Executing.{Execution}
-use Rattle.tcp_associations.specs.declared.role.Role.{Role}
-use Rattle.tcp_associations.specs.declared.role.Role.TheVariants as role
-use Rattle.tcp_associations.specs.Associations.{role_at}
-use Rattle.tcp_queues.specs.Commands.{given_to_device, result_of}
-use Rattle.tcp_queues.specs.Events.{answered_at, completed_at, connected_at, executed, handed_over, kept, opened, returned, stepped}
-use Rattle.tcp_queues.specs.Events as places
-use Rattle.tcp_queues.specs.Places.{PlaceState, goes_on, ready_at, vacant}
-use Rattle.tcp_queues.specs.Queues.{QueuesState, free_number, opened_at, place_at, received_at, sent_at, with_place}
+use Rattle.tcp_target.specs.declared.role.Role.{Role}
+use Rattle.tcp_target.specs.declared.role.Role.TheVariants as role
+use Rattle.tcp_target.specs.Associations.{role_at}
+use Rattle.tcp_target.specs.QueueCommands.{given_to_device, result_of}
+use Rattle.tcp_target.specs.PlaceEvents.{answered_at, completed_at, connected_at, executed, handed_over, kept, opened, returned, stepped}
+use Rattle.tcp_target.specs.PlaceEvents as places
+use Rattle.tcp_target.specs.Places.{PlaceState, goes_on, ready_at, vacant}
+use Rattle.tcp_target.specs.Queues.{QueuesState, free_number, opened_at, place_at, received_at, sent_at, with_place}
 use Rattle.tcp_target.specs.Commands.{served, served_by}
 use Rattle.tcp_target.specs.Events.{count_of, heard_at, heard_on}
 use Rattle.tcp_target.specs.Events as target

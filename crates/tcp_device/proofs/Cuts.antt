@@ -1,8 +1,8 @@
 -- Deeds that differ only in how what comes is cut into pieces.
 use Rattle.std.proofs.Common.{◌≡◌, ◌≢◌, ℕ, List, ◌∷◌, ◌++◌, refl, sym, ap, subst, ◌∙◌}
-use Rattle.tcp_receiver.specs.declared.expected.Progress.{Progress}
-use Rattle.tcp_receiver.specs.declared.expected.Progress.TheVariants.{Partial, Whole, Failed}
-use Rattle.tcp_queues.specs.PlacePieces.{JoinsAt}
+use Rattle.tcp_connection.specs.declared.expected.Progress.{Progress}
+use Rattle.tcp_connection.specs.declared.expected.Progress.TheVariants.{Partial, Whole, Failed}
+use Rattle.tcp_target.specs.PlacePieces.{JoinsAt}
 use Rattle.tcp_target.specs.Events.{received}
 use Rattle.tcp_target.specs.Pieces.{taken_both_on, taken_on}
 use Rattle.tcp_target.specs.Pieces as target

@@ -11,7 +11,7 @@ use Rattle.device_meaning.specs.Judging.{interval_judge}
 use Rattle.device_meaning.specs.State.{State}
 use Rattle.runner.specs.Taken.{HasTaken}
 use Rattle.tcp_connection.specs.Executing.{Execution}
-use Rattle.tcp_queues.specs.Commands.{given_to_device}
+use Rattle.tcp_target.specs.QueueCommands.{given_to_device}
 use Rattle.tcp_device.specs.Deeds.{Does, DoesWith, Resumed, Served, Turned, reply_in, resumption_replies, submission_replies, turn_replies}
 use Rattle.tcp_device.specs.Served.{ResumesGiven, ServesGiven, TurnsGiven, next_run}
 use Rattle.tcp_device.specs.State.{CommandOfRun, ServedState}

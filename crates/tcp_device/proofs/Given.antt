@@ -3,10 +3,10 @@ use Rattle.std.proofs.Common.{◌≡◌, ℕ, List, Option, None, Some, IsTrue, 
 use Rattle.std.specs.Prelude.{is_some}
 use Rattle.std.specs.Option.{option_map}
 use Rattle.tcp_connection.specs.Executing.{Execution, data_of}
-use Rattle.tcp_queues.specs.Places.{ready_at}
-use Rattle.tcp_queues.specs.Commands.{connect_data_at, given_by, given_to_device}
-use Rattle.tcp_queues.specs.Laws.{GivenAreLive}
-use Rattle.tcp_queues.specs.Queues.{QueuesState, place_at}
+use Rattle.tcp_target.specs.Places.{ready_at}
+use Rattle.tcp_target.specs.QueueCommands.{connect_data_at, given_by, given_to_device}
+use Rattle.tcp_target.specs.QueueLaws.{GivenAreLive}
+use Rattle.tcp_target.specs.Queues.{QueuesState, place_at}
 
 -- an entry that goes to the device is that of a command which is ready
 some_ready : (number : ℕ) (entry : List ℕ) (s : QueuesState) (r : Option Execution)

@@ -11,7 +11,7 @@ use Rattle.device_meaning.specs.Judging.{interval_judge}
 use Rattle.device_meaning.specs.State.{State}
 use Rattle.device_meaning.proofs.Proved.{events_in_parts}
 use Rattle.tcp_connection.specs.Executing.{Execution}
-use Rattle.tcp_queues.specs.Commands.{given_to_device}
+use Rattle.tcp_target.specs.QueueCommands.{given_to_device}
 use Rattle.tcp_device.specs.Deeds.{Closed, Deed, Does, Opened, Received, Resumed, Sent, Served, Ticked, Turned, events_in, events_of, replies_in, replies_of, resumption_replies, resumptions, submission_replies, submissions, turn_replies, turns}
 use Rattle.tcp_device.specs.Laws.{DeedsAreEvents}
 use Rattle.tcp_device.specs.Served.{ResumesGiven, ServesGiven, TurnsGiven, next_run}

@@ -4,17 +4,17 @@ use Rattle.std.specs.Prelude.{slice_index_or}
 use Rattle.std.proofs.lemmas.Bool.{and_parts, cases_lt, eqb-false, eqb-true, le-leb, leb-true, ltb-true}
 use Rattle.std.proofs.lemmas.List.{get_or-replicate, get_or-set_other, get_or_past, length-drop}
 use Rattle.tcp_pdus.specs.Laws.{DataBeginsAligned}
-use Rattle.tcp_associations.specs.Connected.{refusal}
-use Rattle.tcp_associations.specs.declared.checks.TheConstants.{DATA_SGL_LENGTH_INVALID}
+use Rattle.tcp_target.specs.Connected.{refusal}
+use Rattle.tcp_target.specs.declared.connect_checks.TheConstants.{DATA_SGL_LENGTH_INVALID}
 use Rattle.tcp_connection.specs.Connection.{taken}
 use Rattle.tcp_connection.specs.Executing.{Execution, completed, gone}
 use Rattle.tcp_connection.specs.declared.queue.Outcome.{Outcome}
 use Rattle.tcp_connection.specs.declared.queue.Queue.{Queue}
 use Rattle.tcp_connection.specs.declared.state.ConnectionState.{ConnectionState}
-use Rattle.tcp_queues.specs.Commands.{fits, is_success, result_of}
-use Rattle.tcp_queues.specs.Events.{answered_at, closed, completed_at, connected_at, executed, handed_over, joined, kept, opened, received, returned, sent, stepped}
-use Rattle.tcp_queues.specs.Places.{PlaceState, goes_on, has_room, ready_at, vacant}
-use Rattle.tcp_queues.specs.Queues.{QueuesState, no_queues, place_at, with_place}
+use Rattle.tcp_target.specs.QueueCommands.{fits, is_success, result_of}
+use Rattle.tcp_target.specs.PlaceEvents.{answered_at, closed, completed_at, connected_at, executed, handed_over, joined, kept, opened, received, returned, sent, stepped}
+use Rattle.tcp_target.specs.Places.{PlaceState, goes_on, has_room, ready_at, vacant}
+use Rattle.tcp_target.specs.Queues.{QueuesState, no_queues, place_at, with_place}
 use Rattle.tcp_target.proofs.Fine.{here}
 use Rattle.tcp_device.proofs.Sending.{IsAligned, comes, completes, goes, most_with}
 use Rattle.tcp_device.proofs.Standing.{Stands}

@@ -26,3 +26,10 @@ mod Keeping
 mod AdminData
 mod Texts
 mod Waiting
+mod Covering
+mod RoundsAnswer
+mod Explaining
+mod NextCall
+mod HostsWaiting
+mod Ordering
+mod Beginning

@@ -11,12 +11,12 @@ use Rattle.device_events.specs.declared.reply.Reply.TheVariants as reply
 use Rattle.tcp_connection.specs.Executing.{Execution}
 use Rattle.tcp_connection.specs.Order.{entry_of}
 use Rattle.tcp_connection.proofs.Proved.{both}
-use Rattle.tcp_associations.specs.declared.role.Role.TheVariants.{Unconnected, Io}
-use Rattle.tcp_associations.specs.Associations.{ended_with, left, role_at}
-use Rattle.tcp_queues.specs.Places.{is_free, ready_at, vacant}
-use Rattle.tcp_queues.specs.Order.{brought_at}
-use Rattle.tcp_queues.specs.Commands.{given_by, given_to_device, is_for_device}
-use Rattle.tcp_queues.specs.Queues.{QueuesState, free_number, opened_at, place_at}
+use Rattle.tcp_target.specs.declared.role.Role.TheVariants.{Unconnected, Io}
+use Rattle.tcp_target.specs.Associations.{ended_with, left, role_at}
+use Rattle.tcp_target.specs.Places.{is_free, ready_at, vacant}
+use Rattle.tcp_target.specs.PlaceOrder.{brought_at}
+use Rattle.tcp_target.specs.QueueCommands.{given_by, given_to_device, is_for_device}
+use Rattle.tcp_target.specs.Queues.{QueuesState, free_number, opened_at, place_at}
 use Rattle.tcp_target.specs.Commands.{served}
 use Rattle.tcp_target.specs.Events as target
 use Rattle.tcp_target.specs.Laws.{ConnectionsStay}

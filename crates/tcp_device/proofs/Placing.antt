@@ -8,7 +8,7 @@ use Rattle.device_meaning.specs.Judging.{interval_judge}
 use Rattle.device_meaning.specs.State.{State}
 use Rattle.device_meaning.proofs.Proved.{HoldsOfEach, of_entry, of_turn}
 use Rattle.tcp_connection.specs.Executing.{Execution}
-use Rattle.tcp_queues.specs.Commands.{given_to_device}
+use Rattle.tcp_target.specs.QueueCommands.{given_to_device}
 use Rattle.tcp_device.specs.Answering.{HasPlaces}
 use Rattle.tcp_device.specs.Deeds.{Closed, Deed, Does, Opened, Received, Resumed, Sent, Served, Ticked, Turned}
 use Rattle.tcp_device.specs.Served.{ResumesGiven, ServesGiven, TurnsGiven, next_run}

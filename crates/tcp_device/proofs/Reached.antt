@@ -5,9 +5,9 @@ use Rattle.device_events.specs.declared.reply.Reply.{Reply}
 use Rattle.device_events.specs.declared.reply.Reply.TheVariants as reply
 use Rattle.tcp_connection.specs.declared.queue.Outcome.{Outcome}
 use Rattle.tcp_connection.specs.Executing.{Execution}
-use Rattle.tcp_queues.specs.Places.{ready_at}
-use Rattle.tcp_queues.specs.Commands.{given_by, given_to_device, is_for_device}
-use Rattle.tcp_queues.specs.Queues.{QueuesState, place_at}
+use Rattle.tcp_target.specs.Places.{ready_at}
+use Rattle.tcp_target.specs.QueueCommands.{given_by, given_to_device, is_for_device}
+use Rattle.tcp_target.specs.Queues.{QueuesState, place_at}
 use Rattle.tcp_target.specs.Commands.{served}
 use Rattle.tcp_target.specs.Events.{closed, executed, handed_over, opened, received, run_ended, sent}
 use Rattle.tcp_target.specs.Target.{TargetState}

@@ -13,10 +13,10 @@ use Rattle.tcp_pdus.specs.declared.fatal_error.FatalError.{FatalError}
 use Rattle.tcp_pdus.specs.declared.received.Awaits.{Awaits}
 use Rattle.tcp_pdus.specs.declared.received.HostPdu.{HostPdu}
 use Rattle.tcp_pdus.specs.declared.received.HostPdu.TheVariants.{IcReq, H2cTermReq, CapsuleCmd, H2cData}
-use Rattle.tcp_receiver.specs.declared.expected.Expected.{Expected}
-use Rattle.tcp_receiver.specs.declared.expected.Progress.{Progress}
-use Rattle.tcp_receiver.specs.declared.expected.Progress.TheVariants.{Partial, Whole, Failed}
-use Rattle.tcp_receiver.specs.Reading.{behind_common, behind_header, header_error, reading}
+use Rattle.tcp_connection.specs.declared.expected.Expected.{Expected}
+use Rattle.tcp_connection.specs.declared.expected.Progress.{Progress}
+use Rattle.tcp_connection.specs.declared.expected.Progress.TheVariants.{Partial, Whole, Failed}
+use Rattle.tcp_connection.specs.Reading.{behind_common, behind_header, header_error, reading}
 
 -- ---- what passes at a common header
 

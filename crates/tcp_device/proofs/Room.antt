@@ -5,14 +5,14 @@ use Rattle.std.specs.Prelude.{is_some, nat_le, nat_lt, slice_index_or, slice_set
 use Rattle.tcp_pdus.specs.declared.transfer.ReadyToTransfer.{ReadyToTransfer}
 use Rattle.tcp_pdus.specs.Sent.{r2t}
 use Rattle.tcp_connection.specs.declared.state.ConnectionState.{ConnectionState}
-use Rattle.tcp_receiver.specs.Transfers.{free_tag}
+use Rattle.tcp_connection.specs.Transfers.{free_tag}
 use Rattle.tcp_connection.specs.Commands.{WaitingCommand}
 use Rattle.tcp_connection.specs.Dealing.{asked, asked_for, looked_by, transfer_of, unasked}
 use Rattle.tcp_connection.specs.Executing.{Execution, gone, ready, with_started}
-use Rattle.tcp_queues.specs.Events.{handed_over}
-use Rattle.tcp_queues.specs.Places.{PlaceState, goes_on, has_room, ready_at, vacant}
-use Rattle.tcp_queues.specs.Commands.{handed_over_at}
-use Rattle.tcp_queues.specs.Queues.{QueuesState, place_at}
+use Rattle.tcp_target.specs.PlaceEvents.{handed_over}
+use Rattle.tcp_target.specs.Places.{PlaceState, goes_on, has_room, ready_at, vacant}
+use Rattle.tcp_target.specs.QueueCommands.{handed_over_at}
+use Rattle.tcp_target.specs.Queues.{QueuesState, place_at}
 
 r2t_length : (wanted : ReadyToTransfer) → length (r2t wanted) ≡ 24
 r2t_length wanted = refl

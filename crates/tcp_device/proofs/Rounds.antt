@@ -5,10 +5,10 @@ use Rattle.std.proofs.lemmas.Bool.{and_parts, cases_Bool, eq-eqb, eqb-true, or_p
 use Rattle.tcp_connection.specs.Connection.{takes}
 use Rattle.tcp_connection.specs.Executing.{Execution, waiting_ready}
 use Rattle.tcp_connection.specs.Queue.{is_ended}
-use Rattle.tcp_queues.specs.Places.{ready_at}
+use Rattle.tcp_target.specs.Places.{ready_at}
 use Rattle.tcp_target.specs.Events.{count_of}
 use Rattle.tcp_target.specs.Laws.{ConnectionsStay}
-use Rattle.tcp_queues.specs.Ends.{is_cut_off}
+use Rattle.tcp_target.specs.Ends.{is_cut_off}
 use Rattle.tcp_target.specs.Ready.{is_ready}
 use Rattle.tcp_device.specs.Answering.{HasPlaces, IsMet, IsNext, closes, serves}
 use Rattle.tcp_device.specs.Deeds.{AreDone, Closed, Deed, Does, Opened, Received, Resumed, Sent, Served, Ticked, Turned}

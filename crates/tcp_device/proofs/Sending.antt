@@ -17,13 +17,13 @@ use Rattle.tcp_pdus.specs.declared.fatal_error.FatalError.TheVariants.{PduSequen
 use Rattle.tcp_pdus.specs.declared.initialize.InitializeRequest.{InitializeRequest}
 use Rattle.tcp_pdus.specs.declared.received.HostPdu.{HostPdu}
 use Rattle.tcp_pdus.specs.declared.received.HostPdu.TheVariants.{IcReq, H2cTermReq, CapsuleCmd, H2cData}
-use Rattle.tcp_receiver.specs.Reading.{behind_common, behind_header, header_error, reading}
-use Rattle.tcp_receiver.specs.Receiving.{ReceiverState}
-use Rattle.tcp_receiver.specs.Receiving as receiving
-use Rattle.tcp_receiver.specs.Transfers.{free_tag}
-use Rattle.tcp_receiver.specs.declared.expected.Expected.{Expected}
-use Rattle.tcp_receiver.specs.declared.expected.Progress.{Progress}
-use Rattle.tcp_receiver.specs.declared.expected.Progress.TheVariants.{Partial, Whole, Failed}
+use Rattle.tcp_connection.specs.Reading.{behind_common, behind_header, header_error, reading}
+use Rattle.tcp_connection.specs.Receiving.{ReceiverState}
+use Rattle.tcp_connection.specs.Receiving as receiving
+use Rattle.tcp_connection.specs.Transfers.{free_tag}
+use Rattle.tcp_connection.specs.declared.expected.Expected.{Expected}
+use Rattle.tcp_connection.specs.declared.expected.Progress.{Progress}
+use Rattle.tcp_connection.specs.declared.expected.Progress.TheVariants.{Partial, Whole, Failed}
 use Rattle.tcp_connection.specs.Commands.{is_running, without}
 use Rattle.tcp_connection.specs.Connection.{Step, taken, takes, took}
 use Rattle.tcp_connection.specs.Dealing.{checked as entry_checked, commanded_by, dealt, dealt_by, initialized_by, inside, judged, looked, may_come, queued, refusal, with_next}

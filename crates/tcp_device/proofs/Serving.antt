@@ -10,16 +10,16 @@ use Rattle.tcp_admin.specs.Admin.{response}
 use Rattle.tcp_admin.specs.Properties.{got, set_by, set_result}
 use Rattle.tcp_admin.specs.declared.answer.Answer.{Answer}
 use Rattle.tcp_admin.specs.declared.answer.Answer.TheVariants.{Completed, Kept}
-use Rattle.tcp_associations.specs.Connected.{refusal, success}
-use Rattle.tcp_associations.specs.Request.{request_in}
-use Rattle.tcp_associations.specs.declared.connected.Connected.{Connected}
-use Rattle.tcp_associations.specs.declared.request.ConnectRequest.{ConnectRequest}
-use Rattle.tcp_associations.specs.declared.role.Role.{Role}
-use Rattle.tcp_associations.specs.declared.role.Role.TheVariants as role
-use Rattle.tcp_queues.specs.Commands.{connect_answer_at, connect_data_at, connected_by, is_fabrics, is_for_device}
-use Rattle.tcp_queues.specs.Commands as queues
-use Rattle.tcp_queues.specs.Events.{answered_at, connected_at, kept}
-use Rattle.tcp_queues.specs.Queues.{QueuesState, place_at, with_place}
+use Rattle.tcp_target.specs.Connected.{refusal, success}
+use Rattle.tcp_target.specs.ConnectRequest.{request_in}
+use Rattle.tcp_target.specs.declared.connected.Connected.{Connected}
+use Rattle.tcp_target.specs.declared.connect_request.ConnectRequest.{ConnectRequest}
+use Rattle.tcp_target.specs.declared.role.Role.{Role}
+use Rattle.tcp_target.specs.declared.role.Role.TheVariants as role
+use Rattle.tcp_target.specs.QueueCommands.{connect_answer_at, connect_data_at, connected_by, is_fabrics, is_for_device}
+use Rattle.tcp_target.specs.QueueCommands as queues
+use Rattle.tcp_target.specs.PlaceEvents.{answered_at, connected_at, kept}
+use Rattle.tcp_target.specs.Queues.{QueuesState, place_at, with_place}
 use Rattle.tcp_target.specs.declared.outcomes.TheConstants.{COMMAND_SEQUENCE_ERROR}
 use Rattle.tcp_target.specs.Commands.{completed_by, is_connect, refused_with, served_as, served_fabrics, served_get, served_set, served_unconnected, set_outcome, value_outcome, with_made}
 use Rattle.tcp_target.specs.Target.{TargetState, controller_at, with_queues}

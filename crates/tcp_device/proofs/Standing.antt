@@ -12,12 +12,12 @@ use Rattle.tcp_pdus.specs.declared.received.Awaits.{Awaits}
 use Rattle.tcp_pdus.specs.declared.received.Awaits.TheVariants.{Initialization}
 use Rattle.tcp_pdus.specs.declared.received.HostPdu.{HostPdu}
 use Rattle.tcp_pdus.specs.declared.received.HostPdu.TheVariants.{IcReq, H2cTermReq, CapsuleCmd, H2cData}
-use Rattle.tcp_receiver.specs.declared.expected.Progress.{Progress}
-use Rattle.tcp_receiver.specs.declared.expected.Progress.TheVariants.{Partial, Whole, Failed}
-use Rattle.tcp_receiver.specs.Reading.{reading}
-use Rattle.tcp_receiver.specs.Receiving.{ReceiverState, next, next_by}
-use Rattle.tcp_receiver.specs.Receiving as receiving
-use Rattle.tcp_receiver.specs.Transfers.{free_tag}
+use Rattle.tcp_connection.specs.declared.expected.Progress.{Progress}
+use Rattle.tcp_connection.specs.declared.expected.Progress.TheVariants.{Partial, Whole, Failed}
+use Rattle.tcp_connection.specs.Reading.{reading}
+use Rattle.tcp_connection.specs.Receiving.{ReceiverState, next, next_by}
+use Rattle.tcp_connection.specs.Receiving as receiving
+use Rattle.tcp_connection.specs.Transfers.{free_tag}
 use Rattle.tcp_connection.specs.declared.queue.Outcome.{Outcome}
 use Rattle.tcp_connection.specs.declared.queue.Phase.{Phase}
 use Rattle.tcp_connection.specs.declared.queue.Phase.TheVariants.{Initializing, Open, Ended}

@@ -8,8 +8,8 @@ use Rattle.device_meaning.specs.State.{State}
 use Rattle.runner.specs.Taken.{HasTaken}
 use Rattle.tcp_pdus.specs.declared.sent.TheConstants.{MOST_DATA}
 use Rattle.tcp_connection.specs.Executing.{Execution}
-use Rattle.tcp_queues.specs.Commands.{connect_data_at, given_to_device}
-use Rattle.tcp_queues.specs.Laws.{GivenAreLive}
+use Rattle.tcp_target.specs.QueueCommands.{connect_data_at, given_to_device}
+use Rattle.tcp_target.specs.QueueLaws.{GivenAreLive}
 use Rattle.tcp_target.specs.Events.{handed_over}
 use Rattle.tcp_target.specs.Target.{TargetState}
 use Rattle.tcp_device.specs.Deeds.{DoesWith, Served, reply_in, submission_replies}

@@ -4,9 +4,9 @@ use Rattle.std.specs.Prelude.{slice_index_or}
 use Rattle.std.proofs.lemmas.Bool.{and_parts, cases_lt, eqb-false, eqb-true}
 use Rattle.std.proofs.lemmas.List.{get_or-replicate, get_or-set_other, get_or_past}
 use Rattle.tcp_pdus.specs.Direction.{identifier_of}
-use Rattle.tcp_receiver.specs.Reading.{reading}
-use Rattle.tcp_receiver.specs.Receiving as receiving
-use Rattle.tcp_receiver.specs.declared.expected.Progress.{Progress}
+use Rattle.tcp_connection.specs.Reading.{reading}
+use Rattle.tcp_connection.specs.Receiving as receiving
+use Rattle.tcp_connection.specs.declared.expected.Progress.{Progress}
 use Rattle.tcp_connection.specs.declared.queue.Outcome.{Outcome}
 use Rattle.tcp_connection.specs.declared.queue.Phase.{Phase}
 use Rattle.tcp_connection.specs.declared.queue.Phase.TheVariants.{Initializing, Open, Ended}
@@ -15,21 +15,21 @@ use Rattle.tcp_connection.specs.declared.state.ConnectionState.{ConnectionState}
 use Rattle.tcp_connection.specs.Connection.{Step, taken, takes, took}
 use Rattle.tcp_connection.specs.Executing.{Execution, ready, waiting_ready}
 use Rattle.tcp_connection.specs.Queue.{is_ended}
-use Rattle.tcp_associations.specs.Associations.{role_at}
-use Rattle.tcp_associations.specs.declared.role.Role.{Role}
-use Rattle.tcp_associations.specs.declared.role.Role.TheVariants as role
-use Rattle.tcp_queues.specs.Commands.{result_of}
-use Rattle.tcp_queues.specs.Events.{answered_at, closed, completed_at, connected_at, executed, handed_over, kept, opened, returned, stepped}
-use Rattle.tcp_queues.specs.Events as places
-use Rattle.tcp_queues.specs.Places.{PlaceState, goes_on, ready_at, vacant}
-use Rattle.tcp_queues.specs.Queues.{QueuesState, free_number, no_queues, opened_at, place_at, received_at, sent_at, with_place}
+use Rattle.tcp_target.specs.Associations.{role_at}
+use Rattle.tcp_target.specs.declared.role.Role.{Role}
+use Rattle.tcp_target.specs.declared.role.Role.TheVariants as role
+use Rattle.tcp_target.specs.QueueCommands.{result_of}
+use Rattle.tcp_target.specs.PlaceEvents.{answered_at, closed, completed_at, connected_at, executed, handed_over, kept, opened, returned, stepped}
+use Rattle.tcp_target.specs.PlaceEvents as places
+use Rattle.tcp_target.specs.Places.{PlaceState, goes_on, ready_at, vacant}
+use Rattle.tcp_target.specs.Queues.{QueuesState, free_number, no_queues, opened_at, place_at, received_at, sent_at, with_place}
 use Rattle.tcp_target.specs.Commands.{served_as, served_by}
 use Rattle.tcp_target.specs.Events.{count_of, heard_at, heard_on}
 use Rattle.tcp_target.specs.Events as target
 use Rattle.tcp_target.specs.Target.{TargetState, with_queues}
 use Rattle.tcp_target.proofs.Fine.{here}
 use Rattle.tcp_target.proofs.Ticking.{opened_queues, taken_queues, ticked_queues}
-use Rattle.tcp_queues.specs.Ends.{is_cut_off}
+use Rattle.tcp_target.specs.Ends.{is_cut_off}
 use Rattle.tcp_device.specs.Answering.{IsNext}
 use Rattle.tcp_device.specs.Order.{place_of}
 use Rattle.tcp_device.specs.State.{begun_on}

@@ -6,15 +6,15 @@ use Rattle.tcp_connection.specs.Executing.{Execution}
 use Rattle.tcp_connection.specs.declared.queue.Outcome.{Outcome}
 use Rattle.tcp_admin.specs.Laws.{IsSubsystem}
 use Rattle.tcp_admin.specs.declared.subsystem.Subsystem.{Subsystem}
-use Rattle.tcp_associations.specs.Associations.{role_at}
-use Rattle.tcp_associations.specs.Request.{request_in}
-use Rattle.tcp_associations.specs.declared.connected.Connected.{Connected}
-use Rattle.tcp_associations.specs.declared.request.ConnectRequest.{ConnectRequest}
-use Rattle.tcp_associations.specs.declared.role.Role.{Role}
-use Rattle.tcp_associations.specs.declared.role.Role.TheVariants as role
-use Rattle.tcp_queues.specs.Commands.{connect_answer_at, connected, is_fabrics, is_for_device}
-use Rattle.tcp_queues.specs.Places.{ready_at}
-use Rattle.tcp_queues.specs.Queues.{free_number, opened_at, place_at, received_at}
+use Rattle.tcp_target.specs.Associations.{role_at}
+use Rattle.tcp_target.specs.ConnectRequest.{request_in}
+use Rattle.tcp_target.specs.declared.connected.Connected.{Connected}
+use Rattle.tcp_target.specs.declared.connect_request.ConnectRequest.{ConnectRequest}
+use Rattle.tcp_target.specs.declared.role.Role.{Role}
+use Rattle.tcp_target.specs.declared.role.Role.TheVariants as role
+use Rattle.tcp_target.specs.QueueCommands.{connect_answer_at, connected, is_fabrics, is_for_device}
+use Rattle.tcp_target.specs.Places.{ready_at}
+use Rattle.tcp_target.specs.Queues.{free_number, opened_at, place_at, received_at}
 use Rattle.tcp_target.specs.Clocks.{later_controller}
 use Rattle.tcp_target.specs.Commands.{is_connect, served, served_as, served_by, served_fabrics, served_unconnected, with_made}
 use Rattle.tcp_target.specs.Events.{count_of, heard_on, opened, opened_as, received, sent}

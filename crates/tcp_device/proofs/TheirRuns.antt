@@ -14,7 +14,7 @@ use Rattle.device_meaning.specs.Outcome.{Ending, Turn}
 use Rattle.device_meaning.specs.State.{Place, State, place_at}
 use Rattle.device_meaning.proofs.Proved.{HoldsOfEach, of_entry, of_turn}
 use Rattle.tcp_connection.specs.Executing.{Execution}
-use Rattle.tcp_queues.specs.Commands.{given_to_device}
+use Rattle.tcp_target.specs.QueueCommands.{given_to_device}
 use Rattle.tcp_device.specs.Deeds.{Closed, Deed, Does, Opened, Received, Resumed, Sent, Served, Ticked, Turned}
 use Rattle.tcp_device.specs.Laws.{HaveTheirRuns, command_of}
 use Rattle.tcp_device.specs.Served.{ResumesGiven, ServesGiven, TurnsGiven, freed_by, kept_by, next_run}

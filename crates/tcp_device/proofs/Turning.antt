@@ -10,7 +10,7 @@ use Rattle.std.specs.List.{position_or_len}
 use Rattle.device_events.specs.declared.reply.Reply.{Reply}
 use Rattle.device_events.specs.declared.reply.Reply.TheVariants as reply
 use Rattle.tcp_connection.specs.Executing.{Execution}
-use Rattle.tcp_queues.specs.Commands.{given_to_device}
+use Rattle.tcp_target.specs.QueueCommands.{given_to_device}
 use Rattle.tcp_device.specs.Deeds.{AreDone, Closed, Deed, Does, Opened, Received, Resumed, Sent, Served, Ticked, Turned}
 use Rattle.tcp_device.specs.Served.{ResumesGiven, ServesGiven, TurnsGiven, behind, can_go, freed_by, kept_by, next_run, or_else, run_from}
 use Rattle.tcp_device.specs.State.{CommandOfRun, ServedState}

@@ -12,12 +12,12 @@ use Rattle.tcp_admin.specs.Admin.{response}
 use Rattle.tcp_admin.specs.Laws.{IsSubsystem, StructuresAreWhole}
 use Rattle.tcp_admin.specs.declared.subsystem.NamespaceFormat.{NamespaceFormat}
 use Rattle.tcp_admin.specs.declared.subsystem.Subsystem.{Subsystem}
-use Rattle.tcp_associations.specs.Associations.{role_at}
-use Rattle.tcp_queues.specs.Commands.{given_to_device, result_of}
-use Rattle.tcp_queues.specs.Events.{answered_at, connected_at, executed, handed_over, kept, opened}
-use Rattle.tcp_queues.specs.Events as places
-use Rattle.tcp_queues.specs.Places.{PlaceState, ready_at}
-use Rattle.tcp_queues.specs.Queues.{QueuesState, free_number, opened_at, place_at, received_at, sent_at, with_place}
+use Rattle.tcp_target.specs.Associations.{role_at}
+use Rattle.tcp_target.specs.QueueCommands.{given_to_device, result_of}
+use Rattle.tcp_target.specs.PlaceEvents.{answered_at, connected_at, executed, handed_over, kept, opened}
+use Rattle.tcp_target.specs.PlaceEvents as places
+use Rattle.tcp_target.specs.Places.{PlaceState, ready_at}
+use Rattle.tcp_target.specs.Queues.{QueuesState, free_number, opened_at, place_at, received_at, sent_at, with_place}
 use Rattle.tcp_target.specs.Commands.{served, served_as, served_by}
 use Rattle.tcp_target.specs.Events.{count_of, heard_at}
 use Rattle.tcp_target.specs.Events as target

@@ -9,16 +9,16 @@ use Rattle.tcp_admin.specs.declared.subsystem.NamespaceFormat.{NamespaceFormat}
 use Rattle.tcp_admin.specs.declared.subsystem.Subsystem.{Subsystem}
 use Rattle.tcp_admin.specs.Admin.{response}
 use Rattle.tcp_admin.specs.declared.answer.Answer.TheVariants.{Kept}
-use Rattle.tcp_associations.specs.declared.role.Role.TheVariants.{Admin}
-use Rattle.tcp_associations.specs.Associations.{role_at}
+use Rattle.tcp_target.specs.declared.role.Role.TheVariants.{Admin}
+use Rattle.tcp_target.specs.Associations.{role_at}
 use Rattle.tcp_connection.specs.declared.queue.Outcome.{Outcome}
 use Rattle.tcp_connection.specs.declared.queue.Phase.TheVariants.{Open}
 use Rattle.tcp_connection.specs.declared.queue.Queue.{Queue}
 use Rattle.tcp_connection.specs.Commands.{is_running}
 use Rattle.tcp_connection.specs.Executing.{Execution, data_sent, waiting_ready}
 use Rattle.tcp_connection.specs.Sending.{completion}
-use Rattle.tcp_queues.specs.Commands.{given_to_device, result_of}
-use Rattle.tcp_queues.specs.Places.{PlaceState}
+use Rattle.tcp_target.specs.QueueCommands.{given_to_device, result_of}
+use Rattle.tcp_target.specs.Places.{PlaceState}
 use Rattle.tcp_target.specs.Ready.{is_ready}
 use Rattle.tcp_target.specs.Target.{controller_at}
 use Rattle.tcp_device.specs.Deeds.{AreDone, Closed, Deed, Does, Served, Turned}

@@ -3,7 +3,7 @@ use Rattle.std.specs.Prelude.{ℕ, ◌≡◌, ◌≤◌, ◌+◌, ◌==◌, ◌&
 use Rattle.device_meaning.specs.State.{State}
 use Rattle.tcp_admin.specs.declared.subsystem.NamespaceFormat.{NamespaceFormat}
 use Rattle.tcp_admin.specs.declared.subsystem.Subsystem.{Subsystem}
-use Rattle.tcp_queues.specs.Places.{goes_on}
+use Rattle.tcp_target.specs.Places.{goes_on}
 use Rattle.tcp_device.specs.Deeds.{AreDone, Deed}
 use Rattle.tcp_device.specs.Order.{place_of}
 use Rattle.tcp_device.specs.State.{CommandOfRun, ServedState, begun_on}

@@ -6,7 +6,7 @@ use Rattle.device_events.specs.declared.event.Event.TheVariants as event
 use Rattle.device_events.specs.declared.reply.Reply.{Reply}
 use Rattle.device_events.specs.declared.reply.Reply.TheVariants as reply
 use Rattle.tcp_connection.specs.Executing.{Execution}
-use Rattle.tcp_queues.specs.Commands.{given_to_device}
+use Rattle.tcp_target.specs.QueueCommands.{given_to_device}
 use Rattle.tcp_target.specs.Events as target
 use Rattle.tcp_target.specs.Time.{ticked}
 use Rattle.tcp_device.specs.Served.{Resumes, ResumesGiven, Serves, ServesGiven, Turns, TurnsGiven, next_run}

@@ -14,3 +14,10 @@ pub mod Taking
 pub mod Rounds
 pub mod Counting
 pub mod Waiting
+pub mod LoopMeaning
+pub mod FileCalls
+pub mod Kept
+pub mod Answered
+pub mod Explained
+pub mod HostsWaiting
+pub mod Orderly

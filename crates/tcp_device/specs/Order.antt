@@ -8,12 +8,12 @@ use Rattle.tcp_admin.specs.declared.subsystem.NamespaceFormat.{NamespaceFormat}
 use Rattle.tcp_admin.specs.declared.subsystem.Subsystem.{Subsystem}
 use Rattle.tcp_connection.specs.Executing.{Execution}
 use Rattle.tcp_connection.specs.Order.{GoInOrder}
-use Rattle.tcp_associations.specs.declared.role.Role.TheVariants.{Io}
-use Rattle.tcp_associations.specs.Associations.{role_at}
-use Rattle.tcp_queues.specs.Places.{PlaceState, ready_at}
-use Rattle.tcp_queues.specs.Order.{brought_at}
-use Rattle.tcp_queues.specs.Commands.{is_for_device}
-use Rattle.tcp_queues.specs.Queues.{QueuesState, place_at}
+use Rattle.tcp_target.specs.declared.role.Role.TheVariants.{Io}
+use Rattle.tcp_target.specs.Associations.{role_at}
+use Rattle.tcp_target.specs.Places.{PlaceState, ready_at}
+use Rattle.tcp_target.specs.PlaceOrder.{brought_at}
+use Rattle.tcp_target.specs.QueueCommands.{is_for_device}
+use Rattle.tcp_target.specs.Queues.{QueuesState, place_at}
 use Rattle.tcp_device.specs.Deeds.{AreDone, Closed, Deed, Opened, Received, Resumed, Sent, Served, Ticked, Turned, events_of}
 use Rattle.tcp_device.specs.State.{ServedState, begun_on}
 

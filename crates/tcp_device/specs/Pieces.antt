@@ -1,9 +1,9 @@
 -- What comes on connections, however it is cut into pieces.
 use Rattle.std.specs.Prelude.{ℕ, ◌≡◌, ◌≢◌, ◌+◌, List, ◌∷◌, ◌++◌}
-use Rattle.tcp_receiver.specs.declared.expected.Progress.{Progress}
-use Rattle.tcp_receiver.specs.declared.expected.Progress.TheVariants.{Partial}
-use Rattle.tcp_queues.specs.PlacePieces.{JoinsAt, end_of}
-use Rattle.tcp_queues.specs.Queues.{place_at}
+use Rattle.tcp_connection.specs.declared.expected.Progress.{Progress}
+use Rattle.tcp_connection.specs.declared.expected.Progress.TheVariants.{Partial}
+use Rattle.tcp_target.specs.PlacePieces.{JoinsAt, end_of}
+use Rattle.tcp_target.specs.Queues.{place_at}
 use Rattle.tcp_target.specs.Events.{count_of, received}
 use Rattle.tcp_device.specs.Deeds.{AreDone, Deed, Received}
 use Rattle.tcp_device.specs.State.{ServedState, with_target}

@@ -5,11 +5,11 @@ use Rattle.device_meaning.specs.State.{State}
 use Rattle.tcp_admin.specs.declared.subsystem.NamespaceFormat.{NamespaceFormat}
 use Rattle.tcp_admin.specs.declared.subsystem.Subsystem.{Subsystem}
 use Rattle.tcp_connection.specs.Queue.{is_ended}
-use Rattle.tcp_queues.specs.Ends.{is_cut_off}
-use Rattle.tcp_queues.specs.Places.{goes_on}
+use Rattle.tcp_target.specs.Ends.{is_cut_off}
+use Rattle.tcp_target.specs.Places.{goes_on}
 use Rattle.tcp_target.specs.Events.{count_of}
 use Rattle.tcp_connection.specs.Executing.{Execution}
-use Rattle.tcp_queues.specs.Commands.{given_to_device}
+use Rattle.tcp_target.specs.QueueCommands.{given_to_device}
 use Rattle.tcp_device.specs.Answering.{HasPlaces, IsDone, IsMet, IsNext, closes, serves}
 use Rattle.tcp_device.specs.Deeds.{AreDone, Deed, Received, Throughout}
 use Rattle.tcp_device.specs.Order.{place_of, went_on}

@@ -11,9 +11,9 @@ use Rattle.runner.specs.Taken.{HasTaken}
 use Rattle.tcp_pdus.specs.Direction.{identifier_of}
 use Rattle.tcp_pdus.specs.declared.sent.TheConstants.{MOST_DATA}
 use Rattle.tcp_connection.specs.Executing.{Execution}
-use Rattle.tcp_queues.specs.Places.{has_room}
-use Rattle.tcp_queues.specs.Commands.{given_to_device}
-use Rattle.tcp_queues.specs.Queues.{place_at}
+use Rattle.tcp_target.specs.Places.{has_room}
+use Rattle.tcp_target.specs.QueueCommands.{given_to_device}
+use Rattle.tcp_target.specs.Queues.{place_at}
 use Rattle.tcp_target.specs.Commands.{served}
 use Rattle.tcp_target.specs.Events.{executed, handed_over, run_ended}
 use Rattle.tcp_target.specs.Target.{TargetState}

@@ -4,7 +4,7 @@ use Rattle.tcp_admin.specs.declared.subsystem.NamespaceFormat.{NamespaceFormat}
 use Rattle.tcp_admin.specs.declared.subsystem.Subsystem.{Subsystem}
 use Rattle.tcp_connection.specs.Connection.{takes}
 use Rattle.tcp_connection.specs.Executing.{Execution}
-use Rattle.tcp_queues.specs.Places.{goes_on}
+use Rattle.tcp_target.specs.Places.{goes_on}
 use Rattle.tcp_target.specs.Events.{count_of}
 use Rattle.tcp_target.specs.Ready.{is_ready}
 use Rattle.device_meaning.specs.State.{State}

@@ -10,7 +10,7 @@ ghost use Rattle.device_meaning.specs.State.{State};
 ghost use Rattle.nvme_entry.specs.Entry.{decoded};
 ghost use Rattle.durable_device.specs.Changing.{asks_change};
 ghost use Rattle.durable_device.specs.Kept.{IsCommittedBut, IsEither, IsKept, StandsFor};
-ghost use Rattle.tcp_queues.specs.Commands.{given_to_device};
+ghost use Rattle.tcp_target.specs.QueueCommands.{given_to_device};
 ghost use Rattle.tcp_target.specs.Ready.{is_ready};
 ghost use Rattle.tcp_device.specs.Deeds.{Does, Served, Turned};
 ghost use Rattle.tcp_device.specs.Format.{IsFormatOf};
@@ -19,17 +19,17 @@ ghost use Rattle.tcp_device.specs.State.{begun_on};
 ghost use Rattle.tcp_device.specs.Resuming.{Resumes};
 
 use crate::served::ServedTarget;
-use durable_device::laws::changes_come_again;
 use durable_device::{
     DurableDevice, Folding, Folds, FrameDevice, MOST_JOURNAL, asks_change, is_idle, is_refusal,
     note_submission, note_turn,
 };
+use durable_device::laws::changes_come_again;
 use durable_machine::{Batch, Durable, InFile, Store};
 use nvme_entry::{Entry, MOST_TRANSFER};
 use std::alloc::{AllocError, Global};
 use stored_file::{FileError, StoredFile};
 use tcp_admin::{NamespaceFormat, Subsystem};
-use tcp_associations::MOST_CONNECTIONS;
+use tcp_target::MOST_CONNECTIONS;
 use zone_resources::RUNS;
 
 /// What keeps the events of the device of a target: a journal in a file, or nothing. What hosts ask for is done at once, and sent to them
@@ -96,8 +96,9 @@ impl<S: Store<FrameDevice> + Drop> Keeper<S> {
         ensures same { S.disk self.new.events ≡ S.disk self.old.events }
         ensures kept { S.keeps served.new.device (S.waits self.new.events) (S.disk self.new.events) }
     {
-        let is_ready = served.is_ready(number);
-        match served.given_to_device(number) {
+        let target = served.target();
+        let is_ready = target.is_ready(number);
+        match target.given_to_device(number) {
             Some(entry) => self.submit(served, number, &entry)?,
             None => {
                 served.serve(number);

@@ -2,8 +2,11 @@
 
 ghost use Rattle.tcp_device.specs.Answering.{CommandsAreAnswered};
 ghost use Rattle.tcp_device.specs.Counting.{RunsAreAlwaysCounted};
+ghost use Rattle.tcp_device.specs.Explained.{DevicesAreExplained, MemoriesAreExplained};
+ghost use Rattle.tcp_device.specs.HostsWaiting.{HostsAreWaitedFor};
 ghost use Rattle.tcp_device.specs.Laws.{DeedsAreEvents, QueuesAreApart, RunsHaveTheirCommands};
 ghost use Rattle.tcp_device.specs.Order.{CommandsAreInOrder};
+ghost use Rattle.tcp_device.specs.Orderly.{TargetsAreOrderly};
 ghost use Rattle.tcp_device.specs.Outcome.{OutcomesAreTold};
 ghost use Rattle.tcp_device.specs.Rounds.{NextIsAnswered, RoundsGoOn};
 ghost use Rattle.tcp_device.specs.Taking.{BytesAreAlwaysTaken};
@@ -13,7 +16,7 @@ ghost use Rattle.tcp_device.specs.Waiting.{RunsGoOn};
 use nvme_entry::laws::completions_tell;
 use tcp_admin::structures_are_whole;
 use tcp_pdus::data_begins_aligned;
-use tcp_target::{connections_stay, queues_stay_apart};
+use tcp_target::{connections_stay, queues_stay_apart, time_is_counted};
 
 /// Whatever is done with a served target, its device did a list of events: the entries that were handed over, each with just its data
 /// and on the queue that has its connection's number, and turns, in this order; and what hosts are answered is made of its replies to
@@ -98,3 +101,31 @@ pub fn next_is_answered()
 {
     connections_stay();
 }
+
+/// What explains the operations of a loop before a device that is kept in a file says that the device did just the events that the
+/// deeds are, in order, that whatever a crash leaves stands for the device that has all that was answered, and that each round answers
+/// the commands that were next as it began and gives a turn.
+pub fn devices_are_explained()
+    ensures in_file { DevicesAreExplained }
+    ensures in_memory { MemoriesAreExplained }
+{
+    deeds_are_events();
+    commands_are_in_order();
+    commands_are_answered();
+    next_is_answered();
+    runs_go_on();
+}
+
+/// A host is taken for lost only once as much time was counted since it was heard as its controller waits for it. What a loop lets a
+/// target count is no more than the time in which hosts could be heard.
+pub fn hosts_are_waited_for()
+    ensures { HostsAreWaitedFor }
+{
+    time_is_counted();
+}
+
+/// A connection is there from its beginning to its end, what is to be sent on it only grows until it is sent, and none is refused while
+/// there is a number that is neither taken nor held.
+pub fn targets_are_orderly()
+    ensures { TargetsAreOrderly }
+{}

@@ -4,8 +4,7 @@ ghost use Rattle.std.specs.Prelude.{◌≡◌, ◌<◌, ◌≤◌, ◌+◌, IfSo
 ghost use Rattle.tcp_device.specs.Served.{can_go, or_else, run_from};
 
 use std::marker::Model;
-use tcp_associations::MOST_CONNECTIONS;
-use tcp_target::Target;
+use tcp_target::{MOST_CONNECTIONS, Target};
 use zone_resources::RUNS;
 
 /// The command that a run completes.
@@ -61,7 +60,7 @@ pub(crate) fn can_go(target: &Target, pending: &Option<PendingCommand>) -> bool
     ensures { result ≡ can_go target.now pending.now }
 {
     match pending {
-        Some(pending) => target.has_room(pending.connection(), 0),
+        Some(pending) => target.connection(pending.connection()).has_room(0),
         None => false,
     }
 }

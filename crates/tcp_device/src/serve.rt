@@ -3,9 +3,9 @@
 ghost use Rattle.std.specs.Prelude.{◌≡◌, ◌≤◌, ◌<◌, IfSome, IsTrue, Some, is_some, length};
 ghost use Rattle.std.specs.Option.{option_map};
 ghost use Rattle.tcp_pdus.specs.declared.sent.TheConstants.{MOST_DATA};
-ghost use Rattle.tcp_queues.specs.Places.{has_room, ready_at};
-ghost use Rattle.tcp_queues.specs.Commands.{connect_data_at, given_to_device};
-ghost use Rattle.tcp_queues.specs.Queues.{place_at};
+ghost use Rattle.tcp_target.specs.Places.{has_room, ready_at};
+ghost use Rattle.tcp_target.specs.QueueCommands.{connect_data_at, given_to_device};
+ghost use Rattle.tcp_target.specs.Queues.{place_at};
 ghost use Rattle.tcp_target.specs.Ready.{is_ready};
 ghost use Rattle.tcp_device.specs.Deeds.{Does, DoesWith, Served};
 ghost use Rattle.tcp_device.specs.Served.{completed_by, kept_by};
@@ -15,10 +15,8 @@ use crate::outcome::outcome_in;
 use crate::pending::{PendingCommand, put_pending};
 use crate::served::ServedTarget;
 use runner::{Device, Reply};
-use tcp_associations::MOST_CONNECTIONS;
 use tcp_pdus::{ENTRY_BYTES, MOST_DATA, identifier};
-use tcp_queues::given_are_live;
-use tcp_target::Target;
+use tcp_target::{MOST_CONNECTIONS, Target, given_are_live};
 
 impl ServedTarget {
     /// Does the command that is ready on a connection, and says whether there is one: the target executes it, or it goes to the
@@ -29,7 +27,7 @@ impl ServedTarget {
         ensures ready { result ≡ is_ready number self.old.target }
         ensures done { Does (Served number) self.old self.new }
     {
-        if !self.target.is_open(number) {
+        if !self.target.connection(number).is_open() {
             return false;
         }
         self.serve_open(number)
@@ -51,23 +49,7 @@ impl ServedTarget {
         is_ready
     }
 
-    /// Is a command ready on a connection?
-    pub fn is_ready(&self, number: usize) -> bool
-        requires { number < MOST_CONNECTIONS }
-        ensures { result ≡ is_ready number self.now.target }
-    {
-        self.target.is_ready(number)
-    }
-
-    /// The entry of the command of a connection that goes to the device next; `None` where none does.
-    pub fn given_to_device(&self, number: usize) -> Option<[u8; ENTRY_BYTES]>
-        requires { number < MOST_CONNECTIONS }
-        ensures { result ≡ option_map (λ execution. execution.entry) (given_to_device number self.now.target.queues) }
-    {
-        self.target.given_to_device(number)
-    }
-
-    /// All of its data, where there is such a command.
+    /// All data of the command that goes to the device next, where there is one.
     pub fn given_data(&self, number: usize) -> &[u8]
         requires { number < MOST_CONNECTIONS }
         ensures { IfSome (given_to_device number self.now.target.queues) (λ execution. result.now ≡ execution.data) }

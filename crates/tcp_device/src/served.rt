@@ -90,24 +90,17 @@ impl ServedTarget {
         &self.device
     }
 
+    /// The target before it.
+    pub fn target(&self) -> &Target
+        ensures { result.now ≡ self.now.target }
+    {
+        &self.target
+    }
+
     /// Has the target be another subsystem from now on, as before its first connection.
     pub fn set_subsystem(&mut self, subsystem: Subsystem)
         ensures { self.new ≡ with_target (record self.old.target { subsystem = subsystem }) self.old }
     {
         self.target.set_subsystem(subsystem);
-    }
-
-    /// SUBNQN, the name of the subsystem.
-    pub fn nqn(&self) -> &[u8]
-        ensures { result.now ≡ self.now.target.subsystem.nqn }
-    {
-        self.target.nqn()
-    }
-
-    /// The namespace as an image, as it is now.
-    pub fn image(&self) -> &Image
-        ensures { result.now ≡ self.now.device.namespace }
-    {
-        self.device.image()
     }
 }

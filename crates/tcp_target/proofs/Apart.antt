@@ -7,15 +7,15 @@ use Rattle.tcp_admin.specs.declared.answer.Answer.TheVariants.{Completed, Kept}
 use Rattle.tcp_admin.specs.Admin.{response}
 use Rattle.tcp_admin.specs.Properties.{is_just_ready, set_by, set_state}
 use Rattle.tcp_admin.specs.Properties as properties
-use Rattle.tcp_associations.specs.declared.connected.Connected.{Connected}
-use Rattle.tcp_associations.specs.declared.request.ConnectRequest.{ConnectRequest}
-use Rattle.tcp_associations.specs.Request.{request_in}
-use Rattle.tcp_associations.specs.declared.role.Role.{Role}
-use Rattle.tcp_associations.specs.declared.role.Role.TheVariants.{Unconnected, Admin, Io, Ended}
-use Rattle.tcp_associations.specs.Associations.{no_associations, role_at}
-use Rattle.tcp_queues.specs.Places.{ready_at}
-use Rattle.tcp_queues.specs.Commands.{connect_answer_at, connect_data_at, connected}
-use Rattle.tcp_queues.specs.Queues.{QueuesState, free_number, opened_at, place_at, received_at, sent_at}
+use Rattle.tcp_target.specs.declared.connected.Connected.{Connected}
+use Rattle.tcp_target.specs.declared.connect_request.ConnectRequest.{ConnectRequest}
+use Rattle.tcp_target.specs.ConnectRequest.{request_in}
+use Rattle.tcp_target.specs.declared.role.Role.{Role}
+use Rattle.tcp_target.specs.declared.role.Role.TheVariants.{Unconnected, Admin, Io, Ended}
+use Rattle.tcp_target.specs.Associations.{no_associations, role_at}
+use Rattle.tcp_target.specs.Places.{ready_at}
+use Rattle.tcp_target.specs.QueueCommands.{connect_answer_at, connect_data_at, connected}
+use Rattle.tcp_target.specs.Queues.{QueuesState, free_number, opened_at, place_at, received_at, sent_at}
 use Rattle.tcp_target.specs.Apart.{AreSound, HasQueuesApart, QueuesStayApart}
 use Rattle.tcp_target.specs.Commands.{completed_by, connected_with, with_made}
 use Rattle.tcp_target.specs.Events.{count_of, heard_at, heard_on, opened_as}

@@ -4,17 +4,17 @@ use Rattle.std.proofs.lemmas.Bool.{eqb-true, eqb-false}
 use Rattle.std.proofs.lemmas.List.{length-set}
 use Rattle.common_definitions.proofs.Proved.{found_passes}
 use Rattle.tcp_connection.specs.declared.queue.Outcome.{Outcome}
-use Rattle.tcp_associations.specs.declared.connected.Connected.{Connected}
-use Rattle.tcp_associations.specs.declared.data.Host.{Host}
-use Rattle.tcp_associations.specs.declared.request.ConnectRequest.{ConnectRequest}
-use Rattle.tcp_associations.specs.Data.{connect_data_in}
-use Rattle.tcp_associations.specs.declared.associations.Associations.{Associations}
-use Rattle.tcp_associations.specs.declared.role.Role.{Role}
-use Rattle.tcp_associations.specs.declared.role.Role.TheVariants.{Unconnected, Admin, Io, Ended}
-use Rattle.tcp_associations.specs.declared.table.Association.{Association}
-use Rattle.tcp_associations.specs.Associations.{answer_of, ended, ended_with, joined, left, readied, role_at, with_status, without_role}
-use Rattle.tcp_associations.specs.Roles.{without, without_io}
-use Rattle.tcp_associations.specs.Table.{free_id, has_connection, is_free, is_ready, ready_at, with_id}
+use Rattle.tcp_target.specs.declared.connected.Connected.{Connected}
+use Rattle.tcp_target.specs.declared.connect_data.Host.{Host}
+use Rattle.tcp_target.specs.declared.connect_request.ConnectRequest.{ConnectRequest}
+use Rattle.tcp_target.specs.ConnectData.{connect_data_in}
+use Rattle.tcp_target.specs.declared.associations.Associations.{Associations}
+use Rattle.tcp_target.specs.declared.role.Role.{Role}
+use Rattle.tcp_target.specs.declared.role.Role.TheVariants.{Unconnected, Admin, Io, Ended}
+use Rattle.tcp_target.specs.declared.table.Association.{Association}
+use Rattle.tcp_target.specs.Associations.{answer_of, ended, ended_with, joined, left, readied, role_at, with_status, without_role}
+use Rattle.tcp_target.specs.Roles.{without, without_io}
+use Rattle.tcp_target.specs.Table.{free_id, has_connection, is_free, is_ready, ready_at, with_id}
 use Rattle.tcp_target.specs.Apart.{AreApart, AreSound}
 use Rattle.tcp_target.proofs.Connects.{Enters, enters}
 use Rattle.tcp_target.proofs.Roles.{found_below, left_admin, left_admin_io, left_io, left_io_io, nobody_has, role_in, role_mapped, role_set, stands_within, with_other, with_put}

@@ -7,16 +7,16 @@ use Rattle.tcp_admin.specs.declared.answer.Answer.{Answer}
 use Rattle.tcp_admin.specs.declared.answer.Answer.TheVariants.{Completed, Kept}
 use Rattle.tcp_admin.specs.Admin.{response}
 use Rattle.tcp_admin.specs.Properties as properties
-use Rattle.tcp_associations.specs.declared.connected.Connected.{Connected}
-use Rattle.tcp_associations.specs.declared.request.ConnectRequest.{ConnectRequest}
-use Rattle.tcp_associations.specs.Request.{request_in}
-use Rattle.tcp_associations.specs.declared.role.Role.{Role}
-use Rattle.tcp_associations.specs.declared.role.Role.TheVariants.{Unconnected, Admin, Io, Ended}
-use Rattle.tcp_associations.specs.Associations.{role_at}
-use Rattle.tcp_queues.specs.Places.{ready_at, vacant}
-use Rattle.tcp_queues.specs.Commands.{connect_answer_at, connected}
-use Rattle.tcp_queues.specs.Laws.{OthersAreSame}
-use Rattle.tcp_queues.specs.Queues.{QueuesState, place_at, received_at, sent_at}
+use Rattle.tcp_target.specs.declared.connected.Connected.{Connected}
+use Rattle.tcp_target.specs.declared.connect_request.ConnectRequest.{ConnectRequest}
+use Rattle.tcp_target.specs.ConnectRequest.{request_in}
+use Rattle.tcp_target.specs.declared.role.Role.{Role}
+use Rattle.tcp_target.specs.declared.role.Role.TheVariants.{Unconnected, Admin, Io, Ended}
+use Rattle.tcp_target.specs.Associations.{role_at}
+use Rattle.tcp_target.specs.Places.{ready_at, vacant}
+use Rattle.tcp_target.specs.QueueCommands.{connect_answer_at, connected}
+use Rattle.tcp_target.specs.QueueLaws.{OthersAreSame}
+use Rattle.tcp_target.specs.Queues.{QueuesState, place_at, received_at, sent_at}
 use Rattle.tcp_target.specs.Commands.{completed_by, connected_with, served, with_made}
 use Rattle.tcp_target.specs.Events.{count_of, heard_at, heard_on}
 use Rattle.tcp_target.specs.Laws.{ConnectionsStay}

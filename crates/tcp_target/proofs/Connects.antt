@@ -5,19 +5,19 @@ use Rattle.std.proofs.lemmas.Bool.{and_parts, not-true}
 use Rattle.common_definitions.specs.Bytes.{field}
 use Rattle.common_definitions.specs.Checks.{first_failed}
 use Rattle.common_definitions.proofs.Proved.{demanded, none_failed, passed, value_given}
-use Rattle.tcp_associations.specs.declared.checks.TheConstants.{CONNECT_CONTROLLER_BUSY, DATA_SGL_LENGTH_INVALID}
-use Rattle.tcp_associations.specs.declared.connected.Connected.{Connected}
-use Rattle.tcp_associations.specs.declared.connected.Controllers.{Controllers}
-use Rattle.tcp_associations.specs.declared.connected.NamedController.{NamedController}
-use Rattle.tcp_associations.specs.declared.request.ConnectRequest.{ConnectRequest}
-use Rattle.tcp_associations.specs.Checks.{connect_checks, controller_of, has_queue, has_room, is_free}
-use Rattle.tcp_associations.specs.Connected.{connected, invalid_in_entry, refusal}
-use Rattle.tcp_associations.specs.Data.{connect_data_in}
-use Rattle.tcp_associations.specs.declared.associations.Associations.{Associations}
-use Rattle.tcp_associations.specs.declared.role.Role.{Role}
-use Rattle.tcp_associations.specs.declared.table.Association.{Association}
-use Rattle.tcp_associations.specs.Associations.{answer_of, controllers_for, named_for}
-use Rattle.tcp_associations.specs.Table.{free_id, has_connection, is_ready, named_by, ready_at, with_id}
+use Rattle.tcp_target.specs.declared.connect_checks.TheConstants.{CONNECT_CONTROLLER_BUSY, DATA_SGL_LENGTH_INVALID}
+use Rattle.tcp_target.specs.declared.connected.Connected.{Connected}
+use Rattle.tcp_target.specs.declared.connected.Controllers.{Controllers}
+use Rattle.tcp_target.specs.declared.connected.NamedController.{NamedController}
+use Rattle.tcp_target.specs.declared.connect_request.ConnectRequest.{ConnectRequest}
+use Rattle.tcp_target.specs.ConnectChecks.{connect_checks, controller_of, has_queue, has_room, is_free}
+use Rattle.tcp_target.specs.Connected.{connected, invalid_in_entry, refusal}
+use Rattle.tcp_target.specs.ConnectData.{connect_data_in}
+use Rattle.tcp_target.specs.declared.associations.Associations.{Associations}
+use Rattle.tcp_target.specs.declared.role.Role.{Role}
+use Rattle.tcp_target.specs.declared.table.Association.{Association}
+use Rattle.tcp_target.specs.Associations.{answer_of, controllers_for, named_for}
+use Rattle.tcp_target.specs.Table.{free_id, has_connection, is_ready, named_by, ready_at, with_id}
 
 -- an admin queue's controller is the one that was free; an I/O queue's is ready, and the queue had no connection
 pub record Enters (c : Connected) (s : Associations) : Type 0 where

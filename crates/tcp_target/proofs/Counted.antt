@@ -4,7 +4,7 @@ use Rattle.std.specs.Prelude.{nat_le, sum}
 use Rattle.std.proofs.lemmas.Bool.{eqb-false, eqb-true, le-leb, leb-true}
 use Rattle.std.proofs.lemmas.List.{get_or-set_other, get_or-set_same, length-set}
 use Rattle.std.proofs.lemmas.List.Sums.{sum_by-cons}
-use Rattle.tcp_queues.specs.Queues.{QueuesState}
+use Rattle.tcp_target.specs.Queues.{QueuesState}
 use Rattle.tcp_target.specs.declared.clocks.ConnectionClock.{ConnectionClock}
 use Rattle.tcp_target.specs.declared.clocks.ControllerClock.{ControllerClock}
 use Rattle.tcp_target.specs.Clocks.{after_ticks, is_past, later_connection, later_controller, started_connection}

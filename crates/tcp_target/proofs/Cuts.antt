@@ -3,15 +3,15 @@ use Rattle.std.proofs.Common.{◌≡◌, ℕ, ◌+◌, ◌<◌, ◌==◌, zero, 
 use Rattle.std.proofs.lemmas.Bool.{cases_lt, ne_eqb}
 use Rattle.std.proofs.lemmas.List.{get_or-set_same, set-set, set_past}
 use Rattle.std.specs.Prelude.{slice_index_or, slice_set}
-use Rattle.tcp_receiver.specs.declared.expected.Progress.{Progress}
-use Rattle.tcp_receiver.specs.declared.expected.Progress.TheVariants.{Partial, Whole, Failed}
-use Rattle.tcp_associations.specs.declared.role.Role.{Role}
-use Rattle.tcp_associations.specs.declared.role.Role.TheVariants.{Unconnected, Admin, Io, Ended}
-use Rattle.tcp_associations.specs.Associations.{role_at}
-use Rattle.tcp_queues.specs.PlacePieces.{JoinsAt, end_of}
-use Rattle.tcp_queues.specs.Pieces.{taken_at, taken_both_at}
-use Rattle.tcp_queues.specs.Pieces as queues
-use Rattle.tcp_queues.specs.Queues.{QueuesState, place_at}
+use Rattle.tcp_connection.specs.declared.expected.Progress.{Progress}
+use Rattle.tcp_connection.specs.declared.expected.Progress.TheVariants.{Partial, Whole, Failed}
+use Rattle.tcp_target.specs.declared.role.Role.{Role}
+use Rattle.tcp_target.specs.declared.role.Role.TheVariants.{Unconnected, Admin, Io, Ended}
+use Rattle.tcp_target.specs.Associations.{role_at}
+use Rattle.tcp_target.specs.PlacePieces.{JoinsAt, end_of}
+use Rattle.tcp_target.specs.QueuePieces.{taken_at, taken_both_at}
+use Rattle.tcp_target.specs.QueuePieces as queues
+use Rattle.tcp_target.specs.Queues.{QueuesState, place_at}
 use Rattle.tcp_target.specs.Events.{heard_at, heard_on}
 use Rattle.tcp_target.specs.Pieces.{PiecesJoin, taken_both_on, taken_on}
 use Rattle.tcp_target.specs.Target.{TargetState, with_queues}
@@ -106,5 +106,5 @@ module _ (number : ℕ) (first second : List ℕ) (t : TargetState) where
   joins_by (Whole pdu) joins = ap at_queues joins
   joins_by (Failed error) joins = ap at_queues joins
 
-pub pieces_join : queues.PiecesJoin → PiecesJoin
+pub pieces_join : queues.QueuePiecesJoin → PiecesJoin
 pieces_join law number first second t = joins_by number first second t (end_of first (place_at number t.queues)) (law number first second t.queues)

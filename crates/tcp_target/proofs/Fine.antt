@@ -4,12 +4,12 @@ use Rattle.std.specs.Prelude.{slice_index_or}
 use Rattle.std.proofs.lemmas.Bool.{cases_lt, eqb-false, eqb-true}
 use Rattle.std.proofs.lemmas.List.{get_or-set_other, get_or-set_same, get_or_past, length-set}
 use Rattle.tcp_connection.specs.Order.{IsSettled}
-use Rattle.tcp_associations.specs.declared.role.Role.{Role}
-use Rattle.tcp_associations.specs.declared.role.Role.TheVariants.{Unconnected, Io}
-use Rattle.tcp_associations.specs.Associations.{role_at}
-use Rattle.tcp_queues.specs.Places.{PlaceState, vacant}
-use Rattle.tcp_queues.proofs.Proved.{PlaceMoves}
-use Rattle.tcp_queues.specs.Queues.{QueuesState, no_queues, place_at, with_place}
+use Rattle.tcp_target.specs.declared.role.Role.{Role}
+use Rattle.tcp_target.specs.declared.role.Role.TheVariants.{Unconnected, Io}
+use Rattle.tcp_target.specs.Associations.{role_at}
+use Rattle.tcp_target.specs.Places.{PlaceState, vacant}
+use Rattle.tcp_target.proofs.PlaceOrder.{PlaceMoves}
+use Rattle.tcp_target.specs.Queues.{QueuesState, no_queues, place_at, with_place}
 use Rattle.tcp_target.proofs.Roles.{role_in}
 
 -- a host has the connection, which has dealt with each PDU that came whole

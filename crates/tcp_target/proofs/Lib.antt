@@ -1,3 +1,10 @@
+mod Mapped
+mod PlaceCuts
+mod PlaceEnds
+mod PlaceOrder
+mod QueueCuts
+mod Live
+mod Others
 mod Served
 mod Counted
 pub mod Ticking

@@ -9,17 +9,17 @@ use Rattle.tcp_connection.specs.Connection.{taken}
 use Rattle.tcp_connection.specs.Executing.{Execution}
 use Rattle.tcp_connection.specs.Order.{entry_of}
 use Rattle.tcp_connection.proofs.Proved.{stays}
-use Rattle.tcp_associations.specs.Connected.{refusal}
-use Rattle.tcp_associations.specs.declared.role.Role.{Role}
-use Rattle.tcp_associations.specs.declared.role.Role.TheVariants.{Unconnected, Admin, Io, Ended}
-use Rattle.tcp_associations.specs.Associations.{role_at}
-use Rattle.tcp_queues.specs.Places.{PlaceState, goes_on, ready_at, vacant}
-use Rattle.tcp_queues.specs.Events.{answered_at, completed_at, executed, handed_over, returned, stepped}
-use Rattle.tcp_queues.specs.Events as places
-use Rattle.tcp_queues.specs.Order.{brought_at}
-use Rattle.tcp_queues.proofs.Proved.{PlaceMoves, answer_moves, execute_moves, go_moves, receive_moves}
-use Rattle.tcp_queues.specs.Commands.{given_by, given_to_device, is_fabrics, is_for_device, result_of}
-use Rattle.tcp_queues.specs.Queues.{QueuesState, place_at, received_at, sent_at, with_place}
+use Rattle.tcp_target.specs.Connected.{refusal}
+use Rattle.tcp_target.specs.declared.role.Role.{Role}
+use Rattle.tcp_target.specs.declared.role.Role.TheVariants.{Unconnected, Admin, Io, Ended}
+use Rattle.tcp_target.specs.Associations.{role_at}
+use Rattle.tcp_target.specs.Places.{PlaceState, goes_on, ready_at, vacant}
+use Rattle.tcp_target.specs.PlaceEvents.{answered_at, completed_at, executed, handed_over, returned, stepped}
+use Rattle.tcp_target.specs.PlaceEvents as places
+use Rattle.tcp_target.specs.PlaceOrder.{brought_at}
+use Rattle.tcp_target.proofs.PlaceOrder.{PlaceMoves, answer_moves, execute_moves, go_moves, receive_moves}
+use Rattle.tcp_target.specs.QueueCommands.{given_by, given_to_device, is_fabrics, is_for_device, result_of}
+use Rattle.tcp_target.specs.Queues.{QueuesState, place_at, received_at, sent_at, with_place}
 use Rattle.zone_state.specs.declared.status.Status.{Status}
 use Rattle.zone_state.specs.declared.status.TheConstants.Status.{INVALID_COMMAND_OPCODE}
 use Rattle.tcp_target.specs.declared.outcomes.TheConstants.{COMMAND_SEQUENCE_ERROR}

@@ -2,11 +2,11 @@
 use Rattle.std.proofs.Common.{◌≡◌, ◌≢◌, ℕ, zero, suc, ◌<◌, ◌==◌, Bool, true, false, cond, List, [], ◌∷◌, length, map, set, find, Option, None, Some, ◌⊎◌, inl, inr, is_some, refl, ap, sym, subst, ◌∙◌, arith}
 use Rattle.std.specs.Prelude.{slice_get, unwrap_or}
 use Rattle.std.proofs.lemmas.Bool.{eq-eqb, eqb-false, or_parts}
-use Rattle.tcp_associations.specs.declared.role.Role.{Role}
-use Rattle.tcp_associations.specs.declared.role.Role.TheVariants.{Unconnected, Admin, Io, Ended}
-use Rattle.tcp_associations.specs.declared.table.Association.{Association}
-use Rattle.tcp_associations.specs.Roles.{is_queue_of, without, without_io}
-use Rattle.tcp_associations.specs.Table.{has_connection, standing, with_id}
+use Rattle.tcp_target.specs.declared.role.Role.{Role}
+use Rattle.tcp_target.specs.declared.role.Role.TheVariants.{Unconnected, Admin, Io, Ended}
+use Rattle.tcp_target.specs.declared.table.Association.{Association}
+use Rattle.tcp_target.specs.Roles.{is_queue_of, without, without_io}
+use Rattle.tcp_target.specs.Table.{has_connection, standing, with_id}
 
 -- ---- roles
 

@@ -4,11 +4,11 @@ use Rattle.std.specs.Prelude.{slice_index}
 use Rattle.zone_state.specs.declared.status.Status.{Status}
 use Rattle.zone_state.specs.declared.status.TheConstants.Status.{INVALID_COMMAND_OPCODE}
 use Rattle.tcp_connection.specs.Executing.{Execution}
-use Rattle.tcp_associations.specs.Request.{request_in}
-use Rattle.tcp_associations.specs.declared.role.Role.{Role}
-use Rattle.tcp_associations.specs.declared.role.Role.TheVariants.{Unconnected, Admin, Io, Ended}
-use Rattle.tcp_associations.specs.Associations.{role_at}
-use Rattle.tcp_queues.specs.Commands.{is_fabrics, is_for_device}
+use Rattle.tcp_target.specs.ConnectRequest.{request_in}
+use Rattle.tcp_target.specs.declared.role.Role.{Role}
+use Rattle.tcp_target.specs.declared.role.Role.TheVariants.{Unconnected, Admin, Io, Ended}
+use Rattle.tcp_target.specs.Associations.{role_at}
+use Rattle.tcp_target.specs.QueueCommands.{is_fabrics, is_for_device}
 use Rattle.tcp_target.specs.declared.outcomes.TheConstants.{COMMAND_SEQUENCE_ERROR}
 use Rattle.tcp_target.specs.Commands.{connected_with, is_connect, refused_with, served_admin, served_as, served_by, served_command, served_fabrics, served_get, served_io, served_set, served_unconnected}
 use Rattle.tcp_target.specs.Target.{TargetState}

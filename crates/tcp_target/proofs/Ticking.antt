@@ -1,6 +1,6 @@
 -- What changes clocks alone.
 use Rattle.std.proofs.Common.{◌≡◌, ℕ, ◌==◌, zero, suc, true, false, cond, Option, None, Some, refl, map}
-use Rattle.tcp_queues.specs.Queues.{QueuesState}
+use Rattle.tcp_target.specs.Queues.{QueuesState}
 use Rattle.tcp_target.specs.Clocks.{later_controller}
 use Rattle.tcp_target.specs.Events.{opened_as, taken_by_host}
 use Rattle.tcp_target.specs.Target.{TargetState, connection_clock_at, with_connection_clock}

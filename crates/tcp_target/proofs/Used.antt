@@ -15,23 +15,23 @@ use Rattle.tcp_admin.specs.declared.answer.Answer.TheVariants as answer
 use Rattle.tcp_admin.specs.Admin.{response}
 use Rattle.tcp_admin.specs.Properties.{got, is_just_ready, set_by, set_result, set_state}
 use Rattle.tcp_admin.specs.Properties as properties
-use Rattle.tcp_associations.specs.declared.connected.Connected.{Connected}
-use Rattle.tcp_associations.specs.declared.request.ConnectRequest.{ConnectRequest}
-use Rattle.tcp_associations.specs.Connected.{refusal, success}
-use Rattle.tcp_associations.specs.Request.{request_in}
-use Rattle.tcp_associations.specs.declared.role.Role.{Role}
-use Rattle.tcp_associations.specs.declared.role.Role.TheVariants.{Unconnected, Admin, Io, Ended}
-use Rattle.tcp_associations.specs.Associations.{ended, ended_with, role_at, roles_with}
-use Rattle.tcp_associations.specs.Roles.{role_of, without, without_io}
-use Rattle.tcp_queues.specs.Places.{PlaceState, goes_on, is_free, ready_at, vacant}
-use Rattle.tcp_queues.specs.Events.{answered_at, closed, completed_at, connected_at, executed, handed_over, joined, kept, opened, returned, stepped}
-use Rattle.tcp_queues.specs.Events as places
-use Rattle.tcp_queues.specs.Order.{brought_at}
-use Rattle.tcp_queues.proofs.Proved.{answer_moves, execute_moves, go_moves, receive_moves}
-use Rattle.tcp_queues.specs.Commands.{connect_answer_at, connect_data_at, connected_by, result_of}
-use Rattle.tcp_queues.specs.Commands as queues
-use Rattle.tcp_queues.specs.Ends.{closed_at, controller_ended}
-use Rattle.tcp_queues.specs.Queues.{QueuesState, free_number, opened_at, place_at, received_at, sent_at, with_place}
+use Rattle.tcp_target.specs.declared.connected.Connected.{Connected}
+use Rattle.tcp_target.specs.declared.connect_request.ConnectRequest.{ConnectRequest}
+use Rattle.tcp_target.specs.Connected.{refusal, success}
+use Rattle.tcp_target.specs.ConnectRequest.{request_in}
+use Rattle.tcp_target.specs.declared.role.Role.{Role}
+use Rattle.tcp_target.specs.declared.role.Role.TheVariants.{Unconnected, Admin, Io, Ended}
+use Rattle.tcp_target.specs.Associations.{ended, ended_with, role_at, roles_with}
+use Rattle.tcp_target.specs.Roles.{role_of, without, without_io}
+use Rattle.tcp_target.specs.Places.{PlaceState, goes_on, is_free, ready_at, vacant}
+use Rattle.tcp_target.specs.PlaceEvents.{answered_at, closed, completed_at, connected_at, executed, handed_over, joined, kept, opened, returned, stepped}
+use Rattle.tcp_target.specs.PlaceEvents as places
+use Rattle.tcp_target.specs.PlaceOrder.{brought_at}
+use Rattle.tcp_target.proofs.PlaceOrder.{answer_moves, execute_moves, go_moves, receive_moves}
+use Rattle.tcp_target.specs.QueueCommands.{connect_answer_at, connect_data_at, connected_by, result_of}
+use Rattle.tcp_target.specs.QueueCommands as queues
+use Rattle.tcp_target.specs.Ends.{closed_at, controller_ended}
+use Rattle.tcp_target.specs.Queues.{QueuesState, free_number, opened_at, place_at, received_at, sent_at, with_place}
 use Rattle.tcp_target.specs.Commands.{completed_by, connected_with, refused_with, served, served_by, served_get, served_set, set_outcome, value_outcome, with_made}
 use Rattle.tcp_target.specs.Events.{count_of, heard_at, heard_on}
 use Rattle.tcp_target.specs.Events as target

@@ -3,10 +3,10 @@ use Rattle.std.specs.Prelude.{ℕ, ◌≡◌, true, List, length, is_some}
 use Rattle.tcp_admin.specs.declared.subsystem.NamespaceFormat.{NamespaceFormat}
 use Rattle.tcp_admin.specs.declared.subsystem.Subsystem.{Subsystem}
 use Rattle.tcp_connection.specs.declared.queue.Outcome.{Outcome}
-use Rattle.tcp_associations.specs.declared.associations.Associations.{Associations}
-use Rattle.tcp_associations.specs.declared.role.Role.TheVariants.{Admin, Io}
-use Rattle.tcp_associations.specs.Associations.{role_at}
-use Rattle.tcp_associations.specs.Table.{is_ready, with_id}
+use Rattle.tcp_target.specs.declared.associations.Associations.{Associations}
+use Rattle.tcp_target.specs.declared.role.Role.TheVariants.{Admin, Io}
+use Rattle.tcp_target.specs.Associations.{role_at}
+use Rattle.tcp_target.specs.Table.{is_ready, with_id}
 use Rattle.tcp_target.specs.Commands.{served}
 use Rattle.tcp_target.specs.Events.{closed, executed, handed_over, opened, received, run_ended, sent}
 use Rattle.tcp_target.specs.Target.{TargetState, begun}

@@ -11,17 +11,17 @@ use Rattle.tcp_admin.specs.declared.controller.Controller.{Controller}
 use Rattle.tcp_admin.specs.Admin.{response}
 use Rattle.tcp_admin.specs.Properties.{got, is_just_ready, set_by, set_result, set_state}
 use Rattle.tcp_admin.specs.Properties as properties
-use Rattle.tcp_associations.specs.declared.connected.Connected.{Connected}
-use Rattle.tcp_associations.specs.declared.request.ConnectRequest.{ConnectRequest}
-use Rattle.tcp_associations.specs.Connected.{refusal}
-use Rattle.tcp_associations.specs.Request.{request_in}
-use Rattle.tcp_associations.specs.declared.role.Role.{Role}
-use Rattle.tcp_associations.specs.declared.role.Role.TheVariants.{Unconnected, Admin, Io, Ended}
-use Rattle.tcp_associations.specs.Associations.{role_at}
-use Rattle.tcp_queues.specs.Places.{ready_at}
-use Rattle.tcp_queues.specs.Commands.{answered, connect_answer_at, connected, is_fabrics, is_for_device, kept_at}
-use Rattle.tcp_queues.specs.Ends.{readied_at}
-use Rattle.tcp_queues.specs.Queues.{QueuesState, place_at}
+use Rattle.tcp_target.specs.declared.connected.Connected.{Connected}
+use Rattle.tcp_target.specs.declared.connect_request.ConnectRequest.{ConnectRequest}
+use Rattle.tcp_target.specs.Connected.{refusal}
+use Rattle.tcp_target.specs.ConnectRequest.{request_in}
+use Rattle.tcp_target.specs.declared.role.Role.{Role}
+use Rattle.tcp_target.specs.declared.role.Role.TheVariants.{Unconnected, Admin, Io, Ended}
+use Rattle.tcp_target.specs.Associations.{role_at}
+use Rattle.tcp_target.specs.Places.{ready_at}
+use Rattle.tcp_target.specs.QueueCommands.{answered, connect_answer_at, connected, is_fabrics, is_for_device, kept_at}
+use Rattle.tcp_target.specs.Ends.{readied_at}
+use Rattle.tcp_target.specs.Queues.{QueuesState, place_at}
 use Rattle.tcp_target.specs.declared.outcomes.TheConstants.{COMMAND_SEQUENCE_ERROR}
 use Rattle.tcp_target.specs.Target.{TargetState, controller_at, heard, heard_on_io, with_controller, with_queues}
 

@@ -1,13 +1,13 @@
 -- What happens to a target.
 use Rattle.std.specs.Prelude.{ℕ, ◌==◌, List, Option, None, Some, if◌then◌else◌}
-use Rattle.tcp_associations.specs.declared.role.Role.{Role}
-use Rattle.tcp_associations.specs.declared.role.Role.TheVariants.{Unconnected, Admin, Io, Ended}
-use Rattle.tcp_associations.specs.Associations.{role_at}
+use Rattle.tcp_target.specs.declared.role.Role.{Role}
+use Rattle.tcp_target.specs.declared.role.Role.TheVariants.{Unconnected, Admin, Io, Ended}
+use Rattle.tcp_target.specs.Associations.{role_at}
 use Rattle.tcp_connection.specs.declared.queue.Outcome.{Outcome}
-use Rattle.tcp_queues.specs.Events as places
-use Rattle.tcp_queues.specs.Commands.{executed_at, handed_over_at, run_ended_at}
-use Rattle.tcp_queues.specs.Ends.{closed_at}
-use Rattle.tcp_queues.specs.Queues.{free_number, opened_at, place_at, received_at, sent_at}
+use Rattle.tcp_target.specs.PlaceEvents as places
+use Rattle.tcp_target.specs.QueueCommands.{executed_at, handed_over_at, run_ended_at}
+use Rattle.tcp_target.specs.Ends.{closed_at}
+use Rattle.tcp_target.specs.Queues.{free_number, opened_at, place_at, received_at, sent_at}
 use Rattle.tcp_target.specs.Clocks.{started_connection}
 use Rattle.tcp_target.specs.Target.{TargetState, connection_clock_at, heard, heard_on_io, with_connection_clock, with_queues}
 

@@ -1,7 +1,7 @@
 -- What holds of targets.
 use Rattle.std.specs.Prelude.{ℕ, List}
 use Rattle.tcp_connection.specs.declared.queue.Outcome.{Outcome}
-use Rattle.tcp_queues.specs.Laws.{OthersAreSame}
+use Rattle.tcp_target.specs.QueueLaws.{OthersAreSame}
 use Rattle.tcp_target.specs.Commands.{served}
 use Rattle.tcp_target.specs.Events.{closed, executed, handed_over, received, run_ended, sent}
 use Rattle.tcp_target.specs.Target.{TargetState}

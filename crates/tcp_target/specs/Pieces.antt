@@ -1,7 +1,7 @@
 -- What comes of hosts, however it is cut into pieces.
 use Rattle.std.specs.Prelude.{ℕ, ◌+◌, List, ◌++◌}
-use Rattle.tcp_queues.specs.PlacePieces.{JoinsAt, end_of}
-use Rattle.tcp_queues.specs.Queues.{place_at}
+use Rattle.tcp_target.specs.PlacePieces.{JoinsAt, end_of}
+use Rattle.tcp_target.specs.Queues.{place_at}
 use Rattle.tcp_target.specs.Events.{count_of, received}
 use Rattle.tcp_target.specs.Target.{TargetState}
 

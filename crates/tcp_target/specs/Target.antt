@@ -4,7 +4,7 @@ use Rattle.tcp_admin.specs.declared.controller.Controller.{Controller}
 use Rattle.tcp_admin.specs.declared.subsystem.NamespaceFormat.{NamespaceFormat}
 use Rattle.tcp_admin.specs.declared.subsystem.Subsystem.{Subsystem}
 use Rattle.tcp_admin.specs.Properties as properties
-use Rattle.tcp_queues.specs.Queues.{QueuesState, no_queues}
+use Rattle.tcp_target.specs.Queues.{QueuesState, no_queues}
 use Rattle.tcp_target.specs.declared.clocks.ConnectionClock.{ConnectionClock}
 use Rattle.tcp_target.specs.declared.clocks.ControllerClock.{ControllerClock}
 use Rattle.tcp_target.specs.Clocks.{started_connection, started_controller}

@@ -1,11 +1,11 @@
 -- What time does to a target, and which connections it takes to be given up by their hosts.
 use Rattle.std.specs.Prelude.{ℕ, zero, suc, Bool, false, not, ◌&&◌, ◌||◌, ◌*◌, ◌/◌, ◌==◌, length, if◌then◌else◌, map}
 use Rattle.tcp_admin.specs.declared.controller.Controller.{Controller}
-use Rattle.tcp_associations.specs.declared.role.Role.{Role}
-use Rattle.tcp_associations.specs.declared.role.Role.TheVariants.{Unconnected, Admin, Io, Ended}
-use Rattle.tcp_associations.specs.Associations.{role_at}
-use Rattle.tcp_queues.specs.Ends.{is_cut_off}
-use Rattle.tcp_queues.specs.Queues.{place_at}
+use Rattle.tcp_target.specs.declared.role.Role.{Role}
+use Rattle.tcp_target.specs.declared.role.Role.TheVariants.{Unconnected, Admin, Io, Ended}
+use Rattle.tcp_target.specs.Associations.{role_at}
+use Rattle.tcp_target.specs.Ends.{is_cut_off}
+use Rattle.tcp_target.specs.Queues.{place_at}
 use Rattle.tcp_target.specs.Clocks.{is_past, later_connection, later_controller}
 use Rattle.tcp_target.specs.Target.{TargetState, connection_clock_at, controller_at, controller_clock_at, with_connection_clock}
 

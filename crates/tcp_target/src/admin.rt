@@ -2,29 +2,19 @@
 
 ghost use Rattle.std.specs.Prelude.{◌≡◌, ◌≤◌, ◌<◌, [], IsTrue, is_some, length, vec_capacity};
 ghost use Rattle.tcp_admin.specs.Admin.{response};
-ghost use Rattle.tcp_queues.specs.Places.{ready_at};
-ghost use Rattle.tcp_queues.specs.Commands.{is_fabrics};
-ghost use Rattle.tcp_queues.specs.Queues.{place_at};
+ghost use Rattle.tcp_target.specs.Places.{ready_at};
+ghost use Rattle.tcp_target.specs.Queues.{place_at};
 ghost use Rattle.tcp_target.specs.Commands.{answered_with, completed_by, refused_with, served, served_admin, served_as, served_command, served_fabrics, served_get, served_io, served_set, with_set};
 
 use crate::outcomes::{COMMAND_SEQUENCE_ERROR, refusal, set_outcome, value_outcome};
+use crate::queue_commands::is_fabrics;
+use crate::queues::Queues;
+use crate::role::{MOST_CONNECTIONS, Role};
 use crate::target::Target;
 use tcp_admin::{Answer, Controller, MOST_ADMIN_DATA, NamespaceFormat, Subsystem};
-use tcp_associations::{MOST_CONNECTIONS, Role};
 use tcp_connection::Outcome;
 use tcp_pdus::{ENTRY_BYTES, identifier};
-use tcp_queues::Queues;
 use zone_state::Status;
-
-/// The opcode of Fabrics commands (NVMe Base 2.0, 6.1).
-const FABRICS_COMMAND: u8 = 0x7F;
-
-/// Is it a Fabrics command?
-pub(crate) fn is_fabrics(entry: &[u8; ENTRY_BYTES]) -> bool
-    ensures { result ≡ is_fabrics entry.now }
-{
-    entry[0] == FABRICS_COMMAND
-}
 
 impl Target {
     /// Executes the command that is ready on a connection, unless it is one for the device: a Connect, a Fabrics command, or an admin
@@ -33,7 +23,7 @@ impl Target {
         requires { number < MOST_CONNECTIONS }
         ensures { self.new ≡ served number self.old }
     {
-        if let Some(entry) = self.queues.ready(number) {
+        if let Some(entry) = self.connection(number).ready() {
             let role = self.queues.role(number);
             self.serve_as(role, number, &entry);
         }

@@ -1,16 +1,18 @@
 //! Commands before Connect, and Connect.
 
 ghost use Rattle.std.specs.Prelude.{◌≡◌, ◌<◌, IsTrue, is_some};
-ghost use Rattle.tcp_associations.specs.Request.{request_in};
-ghost use Rattle.tcp_queues.specs.Places.{ready_at};
-ghost use Rattle.tcp_queues.specs.Queues.{place_at};
+ghost use Rattle.tcp_target.specs.ConnectRequest.{request_in};
+ghost use Rattle.tcp_target.specs.Places.{ready_at};
+ghost use Rattle.tcp_target.specs.Queues.{place_at};
 ghost use Rattle.tcp_target.specs.Commands.{connected_with, is_connect, served_unconnected, with_made};
 
-use crate::admin::is_fabrics;
+use crate::connect_request::ConnectRequest;
+use crate::connected::Connected;
 use crate::outcomes::COMMAND_SEQUENCE_ERROR;
+use crate::role::MOST_CONNECTIONS;
+use crate::queue_commands::is_fabrics;
 use crate::target::Target;
 use tcp_admin::Controller;
-use tcp_associations::{ConnectRequest, Connected, MOST_CONNECTIONS};
 use tcp_connection::Outcome;
 use tcp_pdus::{ENTRY_BYTES, identifier};
 

@@ -2,19 +2,17 @@
 
 ghost use Rattle.std.specs.Prelude.{◌≡◌, ◌≤◌, ◌<◌, IfSome, IsTrue, OnSome, is_some, length};
 ghost use Rattle.std.specs.Option.{option_map};
-ghost use Rattle.tcp_associations.specs.Associations.{role_at};
-ghost use Rattle.tcp_connection.specs.Queue.{is_ended};
-ghost use Rattle.tcp_queues.specs.Places.{has_room, ready_at};
-ghost use Rattle.tcp_queues.specs.Commands.{connect_data_at, given_to_device};
-ghost use Rattle.tcp_queues.specs.Queues.{free_number, place_at};
+ghost use Rattle.tcp_target.specs.Places.{has_room, ready_at};
+ghost use Rattle.tcp_target.specs.QueueCommands.{connect_data_at, given_to_device};
+ghost use Rattle.tcp_target.specs.Queues.{free_number, place_at};
 ghost use Rattle.tcp_target.specs.Events.{closed, count_of, executed, handed_over, heard_at, heard_on, opened, received, run_ended, sent, taken_by_host};
 
 use crate::clocks::ConnectionClock;
+use crate::place::Place;
+use crate::role::{MOST_CONNECTIONS, Role};
 use crate::target::Target;
-use tcp_associations::{MOST_CONNECTIONS, Role};
 use tcp_connection::Outcome;
 use tcp_pdus::{ENTRY_BYTES, MOST_DATA};
-use tcp_queues::MOST_KEPT;
 
 impl Target {
     /// The number that [`Target::open`] gives next; `None` where there is none.
@@ -74,22 +72,15 @@ impl Target {
         }
     }
 
-    /// What a connection is for.
-    pub fn role(&self, number: usize) -> Role
-        ensures { result ≡ role_at number self.now.queues.associations }
-    {
-        self.queues.role(number)
-    }
-
-    /// What is to be sent on a connection.
-    pub fn unsent(&self, number: usize) -> &[u8]
+    /// A connection: what is to be sent on it, whether it has ended, and whether there is room for a completion.
+    pub fn connection(&self, number: usize) -> &Place
         requires { number < MOST_CONNECTIONS }
-        ensures { result.now ≡ (place_at number self.now.queues).unsent }
+        ensures { result.now ≡ place_at number self.now.queues }
     {
-        self.queues.unsent(number)
+        self.queues.place(number)
     }
 
-    /// Forgets the first bytes of it, which were sent.
+    /// Forgets the first bytes of what is to be sent on a connection, which were sent.
     pub fn sent(&mut self, number: usize, count: usize)
         requires number { number < MOST_CONNECTIONS }
         requires count { count ≤ length (place_at number self.old.queues).unsent }
@@ -111,14 +102,6 @@ impl Target {
             };
             self.set_connection_clock(number, clock);
         }
-    }
-
-    /// Has a connection ended? Then it is to be closed once all is sent.
-    pub fn is_ended(&self, number: usize) -> bool
-        requires { number < MOST_CONNECTIONS }
-        ensures { result ≡ is_ended (place_at number self.now.queues).connection.phase }
-    {
-        self.queues.is_ended(number)
     }
 
     /// Says that a connection is closed, by whomever. No other gets its number until the device has none of its commands.
@@ -143,7 +126,7 @@ impl Target {
         requires { number < MOST_CONNECTIONS }
         ensures { result.now ≡ connect_data_at number self.now.queues }
     {
-        self.queues.ready_data(number)
+        self.connection(number).ready_data()
     }
 
     /// Lets it go to the device.
@@ -153,15 +136,6 @@ impl Target {
         ensures { self.new ≡ handed_over number self.old }
     {
         self.queues.hand_over(number);
-    }
-
-    /// Is there room on a connection for a completion with so many bytes of data?
-    pub fn has_room(&self, number: usize, size: usize) -> bool
-        requires number { number < MOST_CONNECTIONS }
-        requires size { size ≤ MOST_KEPT }
-        ensures { result ≡ has_room size (place_at number self.now.queues) }
-    {
-        self.queues.has_room(number, size)
     }
 
     /// Takes what the device gave at once for an entry that was handed over, and completes the command, unless its connection was

@@ -1,7 +1,7 @@
 //! How commands end that the target executes.
 
 ghost use Rattle.std.specs.Prelude.{◌≡◌};
-ghost use Rattle.tcp_associations.specs.Connected.{refusal};
+ghost use Rattle.tcp_target.specs.Connected.{refusal};
 ghost use Rattle.tcp_target.specs.Commands.{set_outcome, value_outcome};
 
 use tcp_connection::Outcome;

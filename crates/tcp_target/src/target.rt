@@ -4,11 +4,11 @@ ghost use Rattle.std.specs.Prelude.{◌≡◌, ◌≤◌, IfOk, length};
 ghost use Rattle.tcp_target.specs.Target.{begun};
 
 use crate::clocks::{ConnectionClock, ControllerClock};
+use crate::queues::Queues;
+use crate::role::MOST_CONNECTIONS;
 use std::alloc::{AllocError, Global};
 use std::marker::Model;
 use tcp_admin::{Controller, MOST_ADMIN_DATA, NamespaceFormat, Subsystem};
-use tcp_associations::MOST_CONNECTIONS;
-use tcp_queues::Queues;
 
 /// The places for controllers: one for each identifier, and for 0, which none has.
 pub(crate) const PLACES: usize = 5;

@@ -6,9 +6,9 @@ ghost use Rattle.tcp_target.specs.Target.{connection_clock_at, controller_at, co
 ghost use Rattle.tcp_target.specs.Time.{counted_at, counted_below, is_given_up, is_late, is_late_as, is_lost, patience_of, ticked, waits};
 
 use crate::clocks::{ConnectionClock, ControllerClock, is_past};
+use crate::role::{MOST_CONNECTIONS, Role};
 use crate::target::{PLACES, Target};
 use tcp_admin::Controller;
-use tcp_associations::{MOST_CONNECTIONS, Role};
 
 /// The milliseconds that a host has for a Connect that succeeds (profile).
 const TO_CONNECT: u64 = 30_000;
@@ -153,7 +153,7 @@ impl Target {
         requires { number < MOST_CONNECTIONS }
         ensures { result ≡ waits number self.now }
     {
-        !self.queues.unsent(number).is_empty()
+        !self.connection(number).unsent().is_empty()
     }
 
     /// Is a connection to be closed at once? So it is since its controller has ended or was stopped; since no Connect has succeeded on it
@@ -173,7 +173,7 @@ impl Target {
         ensures { result ≡ is_late number self.now }
     {
         let role = self.queues.role(number);
-        self.queues.is_open(number)
+        self.connection(number).is_open()
             && (is_past(self.connection_clock(number).taken, TO_TAKE)
                 || self.is_late_as(role, number))
     }

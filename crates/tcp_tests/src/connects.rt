@@ -1,8 +1,8 @@
 //! Connects of Linux, and what completes them.
 
 use std::test::*;
-use tcp_associations::{Associations, ConnectRequest, Connected, Role};
 use tcp_connection::Outcome;
+use tcp_target::{Associations, ConnectRequest, Connected, Role};
 
 /// The name of the target.
 const NQN: &[u8] = b"nqn.2014-08.org.nvmexpress:uuid:1";

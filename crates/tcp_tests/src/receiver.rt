@@ -1,13 +1,13 @@
 //! PDUs that Linux 6.1 sent to a target, in pieces of several sizes.
 
 ghost use Rattle.std.specs.Prelude.{◌≡◌, ◌<◌};
-ghost use Rattle.tcp_receiver.specs.declared.expected.Progress.TheVariants.{Whole};
+ghost use Rattle.tcp_connection.specs.declared.expected.Progress.TheVariants.{Whole};
 
 use crate::load::{LOAD, LOAD_DATA};
 use std::alloc::Global;
 use std::test::*;
+use tcp_connection::{Progress, Receiver};
 use tcp_pdus::{HostPdu, ReadyToTransfer};
-use tcp_receiver::{Progress, Receiver};
 
 /// The bytes of the stream: an ICReq, a Load of 7 bytes, which are to be sent for an R2T, and the H2CData with these.
 const STREAM_BYTES: usize = 231;

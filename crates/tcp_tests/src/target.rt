@@ -103,7 +103,7 @@ fn command(target: &mut Target, number: usize, entry: &[u8; 64])
 fn forget(target: &mut Target, number: usize)
     requires { number < 40 }
 {
-    let count = target.unsent(number).len();
+    let count = target.connection(number).unsent().len();
     target.sent(number, count);
 }
 
@@ -111,7 +111,7 @@ fn forget(target: &mut Target, number: usize)
 fn completion(target: &Target, number: usize) -> Option<(u16, u32)>
     requires { number < 40 }
 {
-    let unsent = target.unsent(number);
+    let unsent = target.connection(number).unsent();
     let (_, last) = unsent.split_last_chunk::<16>()?;
     let status = u16::from_le_bytes([last[14], last[15]]);
     let dw0 = u32::from_le_bytes([last[0], last[1], last[2], last[3]]);
@@ -157,7 +157,7 @@ fn read(target: &mut Target, bytes: &[u8]) -> bool {
         dw0: 0,
         dw1: 0,
     };
-    if bytes.len() > 8 || !target.has_room(1, bytes.len()) {
+    if bytes.len() > 8 || !target.connection(1).has_room(bytes.len()) {
         return false;
     }
     target.execute(1, &entry, outcome, bytes);
@@ -168,11 +168,11 @@ fn read(target: &mut Target, bytes: &[u8]) -> bool {
 fn reads_go_to_the_device(rt: HostRuntime) -> Result<(), Fail> {
     let mut target = connected(&rt, rt.alloc())?;
     assert!(rt; read(&mut target, &[9; 8]));
-    assert_eq!(rt; target.unsent(1).len(), 24 + 8 + 24);
+    assert_eq!(rt; target.connection(1).unsent().len(), 24 + 8 + 24);
     assert_eq!(rt; completion(&target, 1), Some((0, 0)));
     forget(&mut target, 1);
     assert!(rt; read(&mut target, &[9; 7]));
-    assert_eq!(rt; target.unsent(1).len(), 24);
+    assert_eq!(rt; target.connection(1).unsent().len(), 24);
     assert_eq!(rt; completion(&target, 1), Some((0x801E, 0)));
     Ok(())
 }

@@ -3,7 +3,7 @@ use Rattle.std.specs.Prelude.{ℕ, Bool, true, not, ◌&&◌, ◌≡◌, ◌≤�
 use Rattle.std.specs.List.{All}
 use Rattle.std.specs.declared.alloc.Global.{Global}
 use Rattle.tcp_pdus.specs.Direction.{identifier_of}
-use Rattle.tcp_receiver.specs.Transfers.{Transfer, data_of_command, has_transfer}
+use Rattle.tcp_connection.specs.Transfers.{Transfer, data_of_command, has_transfer}
 use Rattle.tcp_connection.specs.declared.waiting.KeptCommand.{KeptCommand}
 use Rattle.tcp_connection.specs.declared.waiting.WaitingEntry.{WaitingEntry}
 use Rattle.tcp_connection.specs.Commands.{WaitingCommand}

@@ -1,4 +1,4 @@
-use Rattle.tcp_connection.proofs.Joined.{steps_join}
+use Rattle.tcp_connection.proofs.StepsJoined.{steps_join}
 use Rattle.tcp_connection.proofs.laws.steps_join.Goals as goal
 
 pub returns : goal.returns

@@ -1,7 +1,7 @@
 use Rattle.std.proofs.Common.{IsTrue, sym, subst, arith}
-use Rattle.tcp_queues.specs.Places.{has_room}
-use Rattle.tcp_queues.specs.Commands.{connect_data_at}
-use Rattle.tcp_queues.specs.Queues.{place_at}
+use Rattle.tcp_target.specs.Places.{has_room}
+use Rattle.tcp_target.specs.QueueCommands.{connect_data_at}
+use Rattle.tcp_target.specs.Queues.{place_at}
 use Rattle.tcp_target.specs.Target.{TargetState}
 use Rattle.tcp_device.proofs.Room.{handed_room}
 use Rattle.tcp_device.proofs.Submitted.{handed, handed_front}

@@ -1,7 +1,7 @@
 use Rattle.std.proofs.Common.{◌≡◌, map, arith, sym, ap, ◌∙◌}
 use Rattle.std.proofs.lemmas.List.{length-set, take_all}
 use Rattle.tcp_target.specs.Clocks.{later_controller, started_controller}
-use Rattle.tcp_associations.proofs.Proved.{mapped_more}
+use Rattle.tcp_target.proofs.Mapped.{mapped_more}
 use Rattle.tcp_target.proofs.time.later_clocks.Goals as goal
 
 pub loop-id-preserved : goal.loop-id-preserved

@@ -1,5 +1,5 @@
 use Rattle.std.proofs.Common.{IsTrue, is_some, sym, subst}
-use Rattle.tcp_receiver.specs.Receiving.{IsBetween}
+use Rattle.tcp_connection.specs.Receiving.{IsBetween}
 use Rattle.tcp_connection.specs.declared.state.ConnectionState.{ConnectionState}
 use Rattle.tcp_connection.specs.Executing.{ready}
 use Rattle.tcp_connection.specs.steps.Connection.{IsConnection}

@@ -1,7 +1,7 @@
 use Rattle.std.proofs.Common.{◌≡◌, ap, sym, subst, ◌∙◌}
 use Rattle.tcp_pdus.specs.declared.received.HostPdu.TheVariants.{CapsuleCmd}
-use Rattle.tcp_receiver.specs.declared.expected.Progress.{Progress}
-use Rattle.tcp_receiver.specs.declared.expected.Progress.TheVariants.{Whole}
+use Rattle.tcp_connection.specs.declared.expected.Progress.{Progress}
+use Rattle.tcp_connection.specs.declared.expected.Progress.TheVariants.{Whole}
 use Rattle.tcp_connection.specs.Dealing.{dealt_by}
 use Rattle.tcp_connection.specs.Sending.{Sends}
 use Rattle.tcp_connection.proofs.state.ConnectionState.deal.Goals as goal

@@ -1,5 +1,5 @@
 use Rattle.std.proofs.Common.{ℕ, [], unwrap_or, ap, ◌∙◌}
-use Rattle.tcp_receiver.specs.Transfers.{data_of_command}
+use Rattle.tcp_connection.specs.Transfers.{data_of_command}
 use Rattle.tcp_connection.specs.Commands.{first_of}
 use Rattle.tcp_connection.proofs.Ready.{data_by_r2t, data_in_capsule}
 use Rattle.tcp_connection.proofs.state.ConnectionState.first_data.Goals as goal

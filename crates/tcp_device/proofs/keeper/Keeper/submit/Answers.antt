@@ -1,5 +1,5 @@
 use Rattle.std.proofs.Common.{ℕ, ◌<◌, ◌^◌, subst, sym, ◌∙◌}
-use Rattle.tcp_queues.specs.Commands.{given_to_device}
+use Rattle.tcp_target.specs.QueueCommands.{given_to_device}
 use Rattle.tcp_device.proofs.Deeds.{has_data, its_data, was_submitted}
 use Rattle.tcp_device.proofs.NotedEvents.{reads}
 use Rattle.tcp_device.proofs.keeper.Keeper.submit.Goals as goal

@@ -1,7 +1,7 @@
 use Rattle.std.proofs.Common.{◌≡◌, Some, sym, subst}
 use Rattle.std.specs.Option.{option_map}
 use Rattle.tcp_connection.specs.Executing.{Execution}
-use Rattle.tcp_queues.specs.Commands.{given_to_device}
+use Rattle.tcp_target.specs.QueueCommands.{given_to_device}
 use Rattle.tcp_device.specs.State.{ServedState}
 use Rattle.tcp_device.proofs.served.ServedTarget.serve_open.Goals as goal
 

@@ -1,7 +1,7 @@
 use Rattle.std.proofs.Common.{◌≡◌, Some, subst, sym}
 use Rattle.std.specs.Option.{option_map}
 use Rattle.tcp_connection.specs.Executing.{Execution}
-use Rattle.tcp_queues.specs.Commands.{given_to_device}
+use Rattle.tcp_target.specs.QueueCommands.{given_to_device}
 use Rattle.tcp_device.specs.Deeds.{DoesWith, Served}
 use Rattle.tcp_device.specs.State.{ServedState}
 use Rattle.tcp_device.proofs.Given.{given_ready}

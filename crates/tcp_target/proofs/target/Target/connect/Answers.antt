@@ -1,5 +1,5 @@
 use Rattle.std.proofs.Common.{ap, ◌∙◌}
-use Rattle.tcp_associations.specs.declared.request.ConnectRequest.{ConnectRequest}
+use Rattle.tcp_target.specs.declared.connect_request.ConnectRequest.{ConnectRequest}
 use Rattle.tcp_target.specs.Commands.{connected_with}
 use Rattle.tcp_target.proofs.target.Target.connect.Goals as goal
 

@@ -1,2 +1,0 @@
-mod Mapped
-mod ReadBack

@@ -1,4 +1,0 @@
-pub mod Flags
-pub mod Operations
-pub mod Answers
-pub mod Laws

@@ -1,2 +1,0 @@
-mod Mapped
-pub mod Proved

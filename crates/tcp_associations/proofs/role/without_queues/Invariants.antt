@@ -1,9 +1,0 @@
-use Rattle.std.proofs.Common.{◌≡◌, length, map, take}
-use Rattle.tcp_associations.specs.Roles.{without_io}
-use Rattle.tcp_associations.proofs.role.without_queues.Given as goal
-
-abbrev pub invariant-loop-number : goal.invariant-loop-number
-invariant-loop-number l = record {
-  made : take l.number l.kept ≡ map (λ role. without_io l.id role) (take l.number l.roles);
-  all : length l.kept ≡ 40;
-}

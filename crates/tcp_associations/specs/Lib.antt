@@ -1,9 +1,0 @@
-pub mod Name
-pub mod Request
-pub mod Data
-pub mod Connected
-pub mod Checks
-pub mod Numbers
-pub mod Roles
-pub mod Table
-pub mod Associations

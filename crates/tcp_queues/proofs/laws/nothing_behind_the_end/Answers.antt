@@ -1,5 +1,0 @@
-use Rattle.tcp_queues.proofs.PlaceEnds.{nothing_behind_the_end}
-use Rattle.tcp_queues.proofs.laws.nothing_behind_the_end.Goals as goal
-
-pub returns : goal.returns
-returns c = nothing_behind_the_end

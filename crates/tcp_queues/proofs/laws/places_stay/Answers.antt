@@ -1,5 +1,0 @@
-use Rattle.tcp_queues.proofs.Others.{places_stay}
-use Rattle.tcp_queues.proofs.laws.places_stay.Goals as goal
-
-pub returns : goal.returns
-returns c = places_stay

@@ -1,5 +1,0 @@
-use Rattle.tcp_queues.proofs.PlaceCuts.{place_pieces_join}
-use Rattle.tcp_queues.proofs.pieces.place_pieces_join.Goals as goal
-
-pub returns : goal.returns
-returns c = place_pieces_join c.steps_join.ensures

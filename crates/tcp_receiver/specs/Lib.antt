@@ -1,5 +1,0 @@
-pub mod Transfers
-pub mod Reading
-pub mod Receiving
-pub mod Laws
-pub mod steps

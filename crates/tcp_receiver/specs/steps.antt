@@ -1,3 +1,0 @@
--- What private functions hand on to each other; no public contract speaks of it.
-pub mod Parts
-pub mod Transfers

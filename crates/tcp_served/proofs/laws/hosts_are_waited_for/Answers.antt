@@ -1,5 +1,0 @@
-use Rattle.tcp_served.proofs.Waiting.{waited_for}
-use Rattle.tcp_served.proofs.laws.hosts_are_waited_for.Goals as goal
-
-pub returns : goal.returns
-returns c = waited_for c.time_is_counted.ensures

@@ -1,5 +1,0 @@
-use Rattle.tcp_served.proofs.Covering.{is_told}
-use Rattle.tcp_served.proofs.memory.MemoryTargetKeptTarget.call_done.Goals as goal
-
-pub returns-clause-told : goal.returns-clause-told
-returns-clause-told c = is_told c.args.self.now.file c.tell_done.new.self c.tell_done.ensures.told
