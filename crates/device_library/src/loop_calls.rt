@@ -8,8 +8,8 @@ ghost use Rattle.tcp_loop.specs.Stages.{IsReady, operation_of};
 ghost use Rattle.device_library.specs.OperationAnswers.{answer_in, came_in, told_by};
 ghost use Rattle.device_library.specs.Operations.{head_of, reads_of, writes_of};
 
-use crate::answered::{answer_in, came_in};
 use crate::answer_asked::AnswerAsked;
+use crate::answered::{answer_in, came_in};
 use crate::operation_head::{OperationHead, head_of, reads_of, writes_of};
 use tcp_loop::{KeptTarget, Loop, PLACES};
 

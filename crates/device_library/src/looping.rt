@@ -19,7 +19,9 @@ use crate::target::Target;
 use durable_machine::InFile;
 use handed_file::HandedFile;
 use std::alloc::Global;
-use tcp_device::{DurableTarget, Keeper, MemoryTarget, ServedTarget, begin_in_file, begin_in_memory};
+use tcp_device::{
+    DurableTarget, Keeper, MemoryTarget, ServedTarget, begin_in_file, begin_in_memory,
+};
 use tcp_loop::{KeptTarget, Level, Loop, Options};
 
 /// How many turns runs are given in a round, where the device is in memory alone: so often hosts are looked at.

@@ -22,7 +22,7 @@ mod Rounds
 mod Serving
 mod Counting
 mod Sending
-mod Keeping
+mod AlwaysRoom
 mod AdminData
 mod Texts
 mod Waiting

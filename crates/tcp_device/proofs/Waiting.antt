@@ -35,7 +35,7 @@ use Rattle.tcp_device.specs.Turning.{AtTurns, HasRuns, MayGo, may_go}
 use Rattle.tcp_device.specs.Waiting.{IsPending, IsReached, RunsGoOn, is_pending}
 use Rattle.tcp_device.proofs.AdminData.{admin_few}
 use Rattle.tcp_device.proofs.Counting.{heard_at_queues, runs_are_counted, some_of}
-use Rattle.tcp_device.proofs.Keeping.{AllKeepRoom, GoesOn, WasHandedOver, all_keep_room_first, answers, closes, connects, ends, executes, goes_as_handed, goes_where, hands_over, keeps, keeps_handed, opens, receives, result_few, room_put, room_there, sends}
+use Rattle.tcp_device.proofs.AlwaysRoom.{AllKeepRoom, GoesOn, WasHandedOver, all_keep_room_first, answers, closes, connects, ends, executes, goes_as_handed, goes_where, hands_over, keeps, keeps_handed, opens, receives, result_few, room_put, room_there, sends}
 use Rattle.tcp_device.proofs.Reached.{ready_given, reached}
 use Rattle.tcp_device.proofs.Serving.{IsGiven, serves_as}
 use Rattle.tcp_device.proofs.Taking.{AllStand, all_stand_first, stay}

@@ -19,11 +19,11 @@ ghost use Rattle.tcp_device.specs.State.{begun_on};
 ghost use Rattle.tcp_device.specs.Resuming.{Resumes};
 
 use crate::served::ServedTarget;
+use durable_device::laws::changes_come_again;
 use durable_device::{
     DurableDevice, Folding, Folds, FrameDevice, MOST_JOURNAL, asks_change, is_idle, is_refusal,
     note_submission, note_turn,
 };
-use durable_device::laws::changes_come_again;
 use durable_machine::{Batch, Durable, InFile, Store};
 use nvme_entry::{Entry, MOST_TRANSFER};
 use std::alloc::{AllocError, Global};

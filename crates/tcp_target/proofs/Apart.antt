@@ -22,7 +22,7 @@ use Rattle.tcp_target.specs.Events.{count_of, heard_at, heard_on, opened_as}
 use Rattle.tcp_target.specs.Time.{ticked}
 use Rattle.tcp_target.specs.Target.{TargetState, controller_at, heard, heard_on_io, with_controller, with_queues}
 use Rattle.tcp_target.proofs.Ticking.{taken_queues, ticked_queues}
-use Rattle.tcp_target.proofs.Associations.{joined_sound, left_sound, readied_sound}
+use Rattle.tcp_target.proofs.QueuesApart.{joined_sound, left_sound, readied_sound}
 use Rattle.tcp_target.proofs.Roles.{role_in}
 use Rattle.tcp_target.proofs.Served.{HoldsOfEach, of_served}
 

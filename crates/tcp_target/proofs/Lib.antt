@@ -12,7 +12,7 @@ mod ConnectionsStay
 mod Roles
 mod Connects
 mod Cuts
-mod Associations
+mod QueuesApart
 pub mod Apart
 pub mod Order
 pub mod Fine

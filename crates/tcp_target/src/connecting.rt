@@ -9,8 +9,8 @@ ghost use Rattle.tcp_target.specs.Commands.{connected_with, is_connect, served_u
 use crate::connect_request::ConnectRequest;
 use crate::connected::Connected;
 use crate::outcomes::COMMAND_SEQUENCE_ERROR;
-use crate::role::MOST_CONNECTIONS;
 use crate::queue_commands::is_fabrics;
+use crate::role::MOST_CONNECTIONS;
 use crate::target::Target;
 use tcp_admin::Controller;
 use tcp_connection::Outcome;

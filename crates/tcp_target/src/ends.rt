@@ -4,7 +4,7 @@ ghost use Rattle.std.specs.Prelude.{◌≡◌, ◌<◌};
 ghost use Rattle.tcp_target.specs.Ends.{closed_at, is_cut_off, readied_at};
 
 use crate::queues::Queues;
-use tcp_target::{MOST_CONNECTIONS, Role};
+use crate::role::{MOST_CONNECTIONS, Role};
 
 impl Queues {
     /// Says that a connection is closed. What the device still has of it is dropped once it is done, and until then no other

@@ -6,10 +6,12 @@ ghost use Rattle.tcp_target.specs.Places.{ready_at};
 ghost use Rattle.tcp_target.specs.QueueCommands.{answered, connect_answer_at, connected, given_to_device, handed_over_at, is_fabrics, is_for_device, kept_at};
 ghost use Rattle.tcp_target.specs.Queues.{place_at};
 
+use crate::connect_request::ConnectRequest;
+use crate::connected::Connected;
 use crate::queues::Queues;
+use crate::role::MOST_CONNECTIONS;
 use tcp_connection::Outcome;
 use tcp_pdus::{ENTRY_BYTES, MOST_DATA};
-use tcp_target::{ConnectRequest, Connected, MOST_CONNECTIONS};
 
 /// The opcode of Fabrics commands (NVMe Base 2.0, 6.1).
 const FABRICS_COMMAND: u8 = 0x7F;

@@ -6,10 +6,11 @@ ghost use Rattle.tcp_target.specs.PlaceEvents.{received};
 ghost use Rattle.tcp_target.specs.Places.{is_free, vacant};
 ghost use Rattle.tcp_target.specs.Queues.{free_number, no_queues, opened_at, place_at, received_at, sent_at};
 
+use crate::associations::Associations;
 use crate::place::Place;
+use crate::role::{MOST_CONNECTIONS, Role};
 use std::alloc::{AllocError, Global};
 use std::marker::Model;
-use tcp_target::{Associations, MOST_CONNECTIONS, Role};
 
 /// The queues of a target: a place for each connection, by its number, and what the connections are for. It takes no memory but that
 /// of [`Queues::new`].

@@ -5,11 +5,12 @@ ghost use Rattle.tcp_target.specs.Places.{has_room};
 ghost use Rattle.tcp_target.specs.QueueCommands.{executed_at, fits, is_success, result_of, run_ended_at};
 ghost use Rattle.tcp_target.specs.Queues.{place_at};
 
+use crate::connect_checks::DATA_SGL_LENGTH_INVALID;
 use crate::outcomes::refusal;
 use crate::queues::Queues;
+use crate::role::MOST_CONNECTIONS;
 use tcp_connection::Outcome;
 use tcp_pdus::{Direction, ENTRY_BYTES, MOST_DATA, SglDescriptor, identifier};
-use tcp_target::{DATA_SGL_LENGTH_INVALID, MOST_CONNECTIONS};
 use zone_state::{Status, StatusType};
 
 /// Is it success?
