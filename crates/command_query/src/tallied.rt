@@ -1,5 +1,9 @@
 //! Tallies of all records that match.
 
+ghost use Rattle.std.specs.Prelude.{◌≡◌};
+ghost use Rattle.record_questions.specs.Question.{signed_by};
+ghost use Rattle.record_questions.specs.Tallies.{value_at};
+
 use crate::answering::{Plan, run, slot_of};
 use crate::cells::Cell;
 use crate::commands::AskedDevice;
@@ -7,7 +11,7 @@ use crate::rows::Printed;
 use crate::wanted::NamedTally;
 use byteorder::{ByteOrder, LittleEndian};
 use command_files::Failure;
-use record_questions::Tally;
+use record_questions::{Sign, Tally};
 use std::alloc::{AllocError, Global};
 
 /// Asks for tallies, and adds the row that has them.
@@ -107,9 +111,30 @@ fn word_at(scratch: &[u8], index: usize) -> u64 {
 /// What a tally's word says, of so many records.
 fn tallied<'r>(tally: Tally, word: u64, count: u64) -> Cell<'r> {
     match tally {
-        Tally::Count | Tally::Sum(_) => Cell::Number(i128::from(word)),
+        Tally::Count => Cell::Number(i128::from(word)),
+        Tally::Sum(field) => Cell::Number(total_of(field.sign, word)),
         Tally::Least(_) | Tally::Greatest(_) if count == 0 => Cell::Nothing,
-        Tally::Least(_) => Cell::Number(i128::from(u64::MAX - word)),
-        Tally::Greatest(_) => Cell::Number(i128::from(word)),
+        Tally::Least(field) => Cell::Number(value_at(field.sign, u64::MAX - word)),
+        Tally::Greatest(field) => Cell::Number(value_at(field.sign, word)),
+    }
+}
+
+/// The sum that a word has, of fields of this sign.
+fn total_of(sign: Sign, word: u64) -> i128
+    ensures { result ≡ signed_by sign 8 word }
+{
+    match sign {
+        Sign::Unsigned => i128::from(word),
+        Sign::Signed => i128::from(word.cast_signed()),
+    }
+}
+
+/// The value of this sign that has a rank.
+fn value_at(sign: Sign, rank: u64) -> i128
+    ensures { result ≡ value_at sign rank }
+{
+    match sign {
+        Sign::Unsigned => i128::from(rank),
+        Sign::Signed => i128::from(rank) - 0x8000_0000_0000_0000,
     }
 }

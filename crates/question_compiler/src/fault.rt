@@ -28,9 +28,8 @@ pub enum QuestionFault {
     #[error("{0} tallies, and scratch has {most} words", most = SCRATCH_BYTES / 8)]
     TooManyTallies(usize),
     /// Something else of it can't be asked: it has no records, or records of no bytes, a field ends after its record, a number has more
-    /// than 64 bits, fields of different signs are compared, bytes are compared with none, a signed field is tallied, or no byte of a
-    /// match is emitted.
-    #[error("no records or no bytes, or a field that passes its record, or can't be compared, tallied or emitted so")]
+    /// than 64 bits, fields of different signs are compared, bytes are compared with none, or no byte of a match is emitted.
+    #[error("no records or no bytes, or a field that passes its record, or can't be compared or emitted so")]
     NoQuestion,
     /// A block whose records all match takes more bytes than the limit.
     #[error("a block whose records all match takes {needed} bytes, and the limit is {limit}")]

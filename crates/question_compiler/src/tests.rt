@@ -137,12 +137,28 @@ fn tallies_are_asked(rt: &impl Abort, alloc: Global) -> Result<(), Fail> {
     Ok(())
 }
 
+/// The load of a signed number of eight bytes, the highest first, takes two slots, and its rank three more.
+fn signed_tallies_are_asked(rt: &impl Abort, alloc: Global) -> Result<(), Fail> {
+    let wanted = compare(WORD, Comparison::NotEqual, Operand::Number(0));
+    let mut question = of_full_blocks(alloc, wanted);
+    question.emitted = None;
+    question.tallies.extend_from_slice(&[
+        Tally::Sum(WIDE),
+        Tally::Least(WIDE),
+        Tally::Greatest(WIDE),
+    ])?;
+    let slots = slots_of(alloc, &question)?;
+    assert_eq!(rt; slots.len(), 4 + 32 * (2 + 5 + 11 + 9));
+    Ok(())
+}
+
 #[test]
 fn questions_of_each_kind_are_accepted(rt: HostRuntime) -> Result<(), Fail> {
     let alloc = rt.alloc();
     comparisons_are_asked(&rt, alloc)?;
     predicates_are_asked(&rt, alloc)?;
-    tallies_are_asked(&rt, alloc)
+    tallies_are_asked(&rt, alloc)?;
+    signed_tallies_are_asked(&rt, alloc)
 }
 
 fn push(code: &mut Vec<Option<Instruction>>, instruction: Instruction) -> Result<(), Fail> {

@@ -5,6 +5,7 @@ mod Reaching
 mod Standing
 mod Accesses
 mod Numbers
+mod Ranks
 mod Comparisons
 mod Course
 mod Tests

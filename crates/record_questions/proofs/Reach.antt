@@ -19,7 +19,7 @@ use Rattle.record_questions.specs.declared.question.Predicate.TheVariants.{Compa
 use Rattle.record_questions.specs.declared.question.Tally.{Tally}
 use Rattle.record_questions.specs.declared.question.Tally.TheVariants.{Count, Sum, Least, Greatest}
 use Rattle.record_questions.specs.declared.question.Question.{Question}
-use Rattle.record_questions.specs.Asked.{AreTallies, IsField, IsOperand, IsPredicate, IsQuestion, IsTallied, IsTally}
+use Rattle.record_questions.specs.Asked.{AreTallies, IsField, IsOperand, IsPredicate, IsQuestion, IsTally}
 use Rattle.record_questions.specs.Code.{chunk_operand}
 
 some_bytes : (s : Size) → 1 ≤ size_of s
@@ -52,14 +52,11 @@ predicate_in (And' x p y q) size n le is = (predicate_in p size n le is.0, predi
 predicate_in (Or' x p y q) size n le is = (predicate_in p size n le is.0, predicate_in q size n le is.1)
 predicate_in (Not' x p) size n le is = predicate_in p size n le is
 
-tallied_in : (f : Field) (size n : ℕ) → size ≤ n → IsTallied size f → IsTallied n f
-tallied_in f size n le is = (field_in f size n le is.0, is.1)
-
 tally_in : (t : Tally) (size n : ℕ) → size ≤ n → IsTally size t → IsTally n t
 tally_in Count size n le is = is
-tally_in (Sum f) size n le is = tallied_in f size n le is
-tally_in (Least f) size n le is = tallied_in f size n le is
-tally_in (Greatest f) size n le is = tallied_in f size n le is
+tally_in (Sum f) size n le is = field_in f size n le is
+tally_in (Least f) size n le is = field_in f size n le is
+tally_in (Greatest f) size n le is = field_in f size n le is
 
 tallies_in : (ts : List Tally) (size n : ℕ) → size ≤ n → AreTallies size ts → AreTallies n ts
 tallies_in [] size n le is = is

@@ -1,10 +1,9 @@
 -- The words of scratch, tally by tally.
-use Rattle.std.proofs.Common.{ℕ, zero, suc, ◌+◌, ◌*◌, ◌<◌, ◌≤◌, ◌^◌, ◌%◌, ◌≡◌, ◌⊎◌, inl, inr, ◌-◌, map, List, [], ◌∷◌, ◌++◌, length, drop, get_or, refl, sym, ap, ◌∙◌, subst, arith, lit<}
+use Rattle.std.proofs.Common.{ℕ, zero, suc, ◌+◌, ◌*◌, ◌<◌, ◌≤◌, ◌^◌, ◌%◌, ◌≡◌, ◌⊎◌, inl, inr, ◌-◌, ◌≤ℤ◌, map, List, [], ◌∷◌, ◌++◌, length, drop, get_or, refl, sym, ap, ◌∙◌, subst, arith, lit<}
 use Rattle.std.proofs.Math.Nat.{mod-eq_of_lt, mod-lt}
-use Rattle.std.proofs.lemmas.List.Sums.{sum_by-cons}
 use Rattle.std.proofs.lemmas.List.{get_or-drop, length-map}
 use Rattle.std.proofs.lemmas.Bool.Decides.{nat_tests}
-use Rattle.std.specs.List.{AllByRecursion, Contains, sum_by}
+use Rattle.std.specs.List.{AllByRecursion, Contains}
 use Rattle.std.specs.Prelude.{Bool, true, false, max, nat_le}
 use Rattle.byteorder.specs.Endian.{little_bytes}
 use Rattle.byteorder.specs.Numbers.{length-bytes_low_first, little_from-lt, little_number-reads_back}
@@ -15,9 +14,10 @@ use Rattle.program_interface.specs.declared.area.TheConstants.{SCRATCH_BYTES}
 use Rattle.program_meaning.proofs.Proved.{same_number, writes_read_back}
 use Rattle.record_questions.specs.declared.question.Tally.{Tally}
 use Rattle.record_questions.specs.declared.question.Tally.TheVariants.{Count, Sum, Least, Greatest}
-use Rattle.record_questions.proofs.Numbers.{number_in_fits}
-use Rattle.record_questions.specs.Question.{number_in}
-use Rattle.record_questions.specs.Tallies.{TalliesAreTotals, WordsAreTallied, IsGreatest, IsLeast, tallied_from, tallied_of, tally_from, tally_step}
+use Rattle.record_questions.proofs.Numbers.{value_is_number}
+use Rattle.record_questions.proofs.Ranks.{rank_in_fits, sum_is, unsigned_sum_is, value_again, value_below}
+use Rattle.record_questions.specs.Question.{value_of}
+use Rattle.record_questions.specs.Tallies.{TalliesAreTotals, WordsAreTallied, IsGreatest, IsLeast, rank_in, tallied_from, tallied_of, tally_from, tally_step, value_at, word_in}
 
 -- a field is as small as its bytes allow
 field_fits : (bytes : List ℕ) (at n : ℕ) → AreBytes bytes → field bytes at n < 256 ^ n
@@ -25,9 +25,9 @@ field_fits bytes at n are = little_from-lt 0 n (drop at bytes) (bytes_from at by
 
 pub step_fits : (t : Tally) (r : List ℕ) (word : ℕ) → AreBytes r → word < 2 ^ 64 → tally_step t r word < 2 ^ 64
 step_fits Count r word are h = mod-lt (word + 1) (lit< tt)
-step_fits (Sum f) r word are h = mod-lt (word + number_in f r) (lit< tt)
+step_fits (Sum f) r word are h = mod-lt (word + word_in f r) (lit< tt)
 step_fits (Least f) r word are h = omega arith
-step_fits (Greatest f) r word are h = let x = number_in_fits f r are in omega (arith, x)
+step_fits (Greatest f) r word are h = let x = rank_in_fits f r are in omega (arith, x)
 
 module _ (s : List ℕ) (at word : ℕ) (fits : at + 8 ≤ length s) where
   same_field : (xs ys : List ℕ) (i j : ℕ) → ((k : ℕ) → k < 8 → get_or xs (i + k) 0 ≡ get_or ys (j + k) 0) → field xs i 8 ≡ field ys j 8
@@ -117,14 +117,6 @@ count_from (r ∷ rs) word =
     let e : word + 1 + length rs ≡ word + length (r ∷ rs) = omega arith in
     count_from rs ((word + 1) % 2 ^ 64) ∙ (wrapped (word + 1) (length rs) ∙ ap (λ (k : ℕ). k % 2 ^ 64) e)
 
-sum_from : (f : Field) (rs : List (List ℕ)) (word : ℕ) → tally_from (Sum f) rs word % 2 ^ 64 ≡ (word + sum_by (number_in f) rs) % 2 ^ 64
-sum_from f [] word = let e : word ≡ word + 0 = omega arith in ap (λ (k : ℕ). k % 2 ^ 64) e
-sum_from f (r ∷ rs) word =
-    let x = number_in f r in
-    let rest = sum_by (number_in f) rs in
-    let e : word + x + rest ≡ word + sum_by (number_in f) (r ∷ rs) = omega (arith, sum_by-cons (number_in f) r rs) in
-    sum_from f rs ((word + x) % 2 ^ 64) ∙ (wrapped (word + x) rest ∙ ap (λ (k : ℕ). k % 2 ^ 64) e)
-
 -- a tally is a word
 tally_fits : (t : Tally) (rs : List (List ℕ)) (word : ℕ) → AllByRecursion AreBytes rs → word < 2 ^ 64 → tally_from t rs word < 2 ^ 64
 tally_fits t [] word are small = small
@@ -141,14 +133,6 @@ top_of (x ∷ xs) word = top_of xs (max word x)
 abbrev Among : List ℕ → ℕ → Type 0
 Among [] x = ⊥
 Among (y ∷ ys) x = (x ≡ y) ⊎ Among ys x
-
-among_contains : (xs : List ℕ) (x : ℕ) → Among xs x → Contains xs x
-among_contains [] x there = elim there [ ]
-among_contains (y ∷ ys) x (inl e) = (0, omega arith, sym e)
-among_contains (y ∷ ys) x (inr there) =
-    let c = among_contains ys x there in
-    let below = c.1 in
-    (suc c.0, omega (arith, below), c.2)
 
 either_max : (a b : ℕ) → (max a b ≡ a) ⊎ (max a b ≡ b)
 either_max a b = by (nat_le b a) refl
@@ -183,21 +167,27 @@ top_among (x ∷ xs) some = from (top_which (x ∷ xs) 0)
     from (inl e) = let h = (top_all (x ∷ xs) 0).0 in inl (omega (arith, h, e))
     from (inr there) = there
 
-greatest_is_top : (f : Field) (rs : List (List ℕ)) (word : ℕ) → tally_from (Greatest f) rs word ≡ top_of (map (number_in f) rs) word
+-- ---- of values, by their ranks
+
+-- the ranks of a field's values
+abbrev ranks_of : Field → List (List ℕ) → List ℕ
+ranks_of f rs = map (rank_in f) rs
+
+greatest_is_top : (f : Field) (rs : List (List ℕ)) (word : ℕ) → tally_from (Greatest f) rs word ≡ top_of (ranks_of f rs) word
 greatest_is_top f [] word = refl
-greatest_is_top f (r ∷ rs) word = greatest_is_top f rs (max word (number_in f r))
+greatest_is_top f (r ∷ rs) word = greatest_is_top f rs (max word (rank_in f r))
 
 -- what is left to 2^64 - 1
 abbrev rest_of : ℕ → ℕ
 rest_of x = 2 ^ 64 - 1 - x
 
-least_is_top : (f : Field) (rs : List (List ℕ)) (word : ℕ) → tally_from (Least f) rs word ≡ top_of (map rest_of (map (number_in f) rs)) word
+least_is_top : (f : Field) (rs : List (List ℕ)) (word : ℕ) → tally_from (Least f) rs word ≡ top_of (map rest_of (ranks_of f rs)) word
 least_is_top f [] word = refl
-least_is_top f (r ∷ rs) word = least_is_top f rs (max word (rest_of (number_in f r)))
+least_is_top f (r ∷ rs) word = least_is_top f rs (max word (rest_of (rank_in f r)))
 
-numbers_fit : (f : Field) (rs : List (List ℕ)) → AllByRecursion AreBytes rs → AllByRecursion (λ x. x < 2 ^ 64) (map (number_in f) rs)
-numbers_fit f [] are = tt
-numbers_fit f (r ∷ rs) are = (number_in_fits f r are.0, numbers_fit f rs are.1)
+ranks_fit : (f : Field) (rs : List (List ℕ)) → AllByRecursion AreBytes rs → AllByRecursion (λ x. x < 2 ^ 64) (ranks_of f rs)
+ranks_fit f [] are = tt
+ranks_fit f (r ∷ rs) are = (rank_in_fits f r are.0, ranks_fit f rs are.1)
 
 rest_among : (xs : List ℕ) (x : ℕ) → AllByRecursion (λ y. y < 2 ^ 64) xs → Among (map rest_of xs) x → Among xs (rest_of x)
 rest_among [] x fit there = elim there [ ]
@@ -208,28 +198,61 @@ rest_all : (xs : List ℕ) (x : ℕ) → AllByRecursion (λ y. y < 2 ^ 64) xs �
 rest_all [] x fit all = tt
 rest_all (y ∷ ys) x fit all = let small = fit.0 in let h = all.0 in (omega (arith, small, h), rest_all ys x fit.1 all.1)
 
-least_is : (f : Field) (rs : List (List ℕ)) → AllByRecursion AreBytes rs → 1 ≤ length rs
-    → IsLeast (map (number_in f) rs) (2 ^ 64 - 1 - tally_from (Least f) rs 0)
-least_is f rs are some =
-    let xs = map (number_in f) rs in
-    let top = top_of (map rest_of xs) 0 in
-    let fit = numbers_fit f rs are in
-    let long : 1 ≤ length (map rest_of xs) = omega (arith, some, length-map xs rest_of, length-map rs (number_in f)) in
-    subst (λ x. IsLeast xs (rest_of x)) (sym (least_is_top f rs 0))
-    (among_contains xs (rest_of top) (rest_among xs top fit (top_among (map rest_of xs) long)), rest_all xs top fit (top_all (map rest_of xs) 0))
+-- the value of a rank among these is among the values
+value_there : (f : Field) (rs : List (List ℕ)) (x : ℕ) → AllByRecursion AreBytes rs → Among (ranks_of f rs) x
+    → Contains (map (value_of f) rs) (value_at f.sign x)
+value_there f [] x are there = elim there [ ]
+value_there f (r ∷ rs) x are (inl e) =
+    (0, omega arith, value_again f.sign (value_of f r) (value_is_number f r are.0) ∙ ap (value_at f.sign) (sym e))
+value_there f (r ∷ rs) x are (inr there) =
+    let c = value_there f rs x are.1 there in
+    let below = c.1 in
+    (suc c.0, omega (arith, below), c.2)
 
-greatest_is : (f : Field) (rs : List (List ℕ)) → 1 ≤ length rs → IsGreatest (map (number_in f) rs) (tally_from (Greatest f) rs 0)
-greatest_is f rs some =
-    let xs = map (number_in f) rs in
-    let long : 1 ≤ length xs = omega (arith, some, length-map rs (number_in f)) in
-    subst (IsGreatest xs) (sym (greatest_is_top f rs 0)) (among_contains xs (top_of xs 0) (top_among xs long), top_all xs 0)
+value_back : (f : Field) (r : List ℕ) → AreBytes r → value_at f.sign (rank_in f r) ≡ value_of f r
+value_back f r are = sym (value_again f.sign (value_of f r) (value_is_number f r are))
+
+values_below : (f : Field) (rs : List (List ℕ)) (x : ℕ) → AllByRecursion AreBytes rs → AllByRecursion (λ y. y ≤ x) (ranks_of f rs)
+    → AllByRecursion (λ z. z ≤ℤ value_at f.sign x) (map (value_of f) rs)
+values_below f [] x are all = tt
+values_below f (r ∷ rs) x are all = (
+  subst (λ z. z ≤ℤ value_at f.sign x) (value_back f r are.0) (value_below f.sign (rank_in f r) x all.0),
+  values_below f rs x are.1 all.1,
+)
+
+values_above : (f : Field) (rs : List (List ℕ)) (x : ℕ) → AllByRecursion AreBytes rs → AllByRecursion (λ y. x ≤ y) (ranks_of f rs)
+    → AllByRecursion (λ z. value_at f.sign x ≤ℤ z) (map (value_of f) rs)
+values_above f [] x are all = tt
+values_above f (r ∷ rs) x are all = (
+  subst (λ z. value_at f.sign x ≤ℤ z) (value_back f r are.0) (value_below f.sign x (rank_in f r) all.0),
+  values_above f rs x are.1 all.1,
+)
+
+least_is : (f : Field) (rs : List (List ℕ)) → AllByRecursion AreBytes rs → 1 ≤ length rs
+    → IsLeast (map (value_of f) rs) (value_at f.sign (2 ^ 64 - 1 - tally_from (Least f) rs 0))
+least_is f rs are some =
+    let xs = ranks_of f rs in
+    let top = top_of (map rest_of xs) 0 in
+    let fit = ranks_fit f rs are in
+    let long : 1 ≤ length (map rest_of xs) = omega (arith, some, length-map xs rest_of, length-map rs (rank_in f)) in
+    subst (λ x. IsLeast (map (value_of f) rs) (value_at f.sign (rest_of x))) (sym (least_is_top f rs 0))
+    (value_there f rs (rest_of top) are (rest_among xs top fit (top_among (map rest_of xs) long)),
+    values_above f rs (rest_of top) are (rest_all xs top fit (top_all (map rest_of xs) 0)))
+
+greatest_is : (f : Field) (rs : List (List ℕ)) → AllByRecursion AreBytes rs → 1 ≤ length rs
+    → IsGreatest (map (value_of f) rs) (value_at f.sign (tally_from (Greatest f) rs 0))
+greatest_is f rs are some =
+    let xs = ranks_of f rs in
+    let long : 1 ≤ length xs = omega (arith, some, length-map rs (rank_in f)) in
+    subst (λ x. IsGreatest (map (value_of f) rs) (value_at f.sign x)) (sym (greatest_is_top f rs 0))
+    (value_there f rs (top_of xs 0) are (top_among xs long), values_below f rs (top_of xs 0) are (top_all xs 0))
 
 pub tallies_are_totals : TalliesAreTotals
 tallies_are_totals = record {
   count = λ rs are. let e : 0 + length rs ≡ length rs = omega arith in
       sym (mod-eq_of_lt (tally_fits Count rs 0 are (lit< tt))) ∙ (count_from rs 0 ∙ ap (λ (k : ℕ). k % 2 ^ 64) e);
-  sum = λ f rs are. let e : 0 + sum_by (number_in f) rs ≡ sum_by (number_in f) rs = omega arith in
-      sym (mod-eq_of_lt (tally_fits (Sum f) rs 0 are (lit< tt))) ∙ (sum_from f rs 0 ∙ ap (λ (k : ℕ). k % 2 ^ 64) e);
+  sum = sum_is;
+  unsigned_sum = unsigned_sum_is;
   least = least_is;
-  greatest = λ f rs are some. greatest_is f rs some;
+  greatest = greatest_is;
 }

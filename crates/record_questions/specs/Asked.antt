@@ -43,15 +43,12 @@ abbrev pub IsRange : ℕ → Option ByteRange → Type 0
 IsRange bytes None = ⊤
 IsRange bytes (Some range) = (1 ≤ range.size) × (range.offset + range.size ≤ bytes)
 
--- a field that can be tallied has no sign
-abbrev pub IsTallied : ℕ → Field → Type 0
-IsTallied bytes f = IsField bytes f × (f.sign ≡ Unsigned)
-
+-- a tally of a record of so many bytes
 abbrev pub IsTally : ℕ → Tally → Type 0
 IsTally bytes Count = ⊤
-IsTally bytes (Sum f) = IsTallied bytes f
-IsTally bytes (Least f) = IsTallied bytes f
-IsTally bytes (Greatest f) = IsTallied bytes f
+IsTally bytes (Sum f) = IsField bytes f
+IsTally bytes (Least f) = IsField bytes f
+IsTally bytes (Greatest f) = IsField bytes f
 
 abbrev pub AreTallies : ℕ → List Tally → Type 0
 AreTallies bytes [] = ⊤

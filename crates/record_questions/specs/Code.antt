@@ -212,12 +212,28 @@ test_code byte goes_on (Not' x p) skip = test_code byte (not goes_on) p skip
 
 -- ---- what is done of a record that matches: R7 has the address of scratch
 
+-- adds 2^63 to a signed value in R5: words compare as the values do then
+abbrev pub rank_code : Sign → List Instruction
+rank_code Unsigned = []
+rank_code Signed = LoadImmediate 4 (2 ^ 63) ∷ Arithmetic Bits64 Add 5 (Register 4) ∷ []
+
+-- the rank of a field's value, in R5
+abbrev pub ranked_code : (byte : ℕ) → Field → List Instruction
+ranked_code byte f = field_code 5 byte f ++ rank_code f.sign
+
+abbrev pub rank_slots : Sign → ℕ
+rank_slots Unsigned = 0
+rank_slots Signed = 3
+
+abbrev pub ranked_slots : Field → ℕ
+ranked_slots f = field_slots f + rank_slots f.sign
+
 -- the number that a tally takes of a record, in R5; the least is the greatest of what is left to 2^64 - 1
 abbrev pub taken_code : (byte : ℕ) → Tally → List Instruction
 taken_code byte Count = []
 taken_code byte (Sum f) = field_code 5 byte f
-taken_code byte (Least f) = field_code 5 byte f ++ Negate Bits64 5 ∷ Arithmetic Bits64 Add 5 (Immediate (neg_ℤ (pos 1))) ∷ []
-taken_code byte (Greatest f) = field_code 5 byte f
+taken_code byte (Least f) = ranked_code byte f ++ Negate Bits64 5 ∷ Arithmetic Bits64 Add 5 (Immediate (neg_ℤ (pos 1))) ∷ []
+taken_code byte (Greatest f) = ranked_code byte f
 
 -- changes the word in R4
 abbrev pub change_code : Tally → List Instruction
@@ -238,8 +254,8 @@ tallies_code byte at (t ∷ ts) = tally_code byte at t ++ tallies_code byte (at 
 abbrev pub taken_slots : Tally → ℕ
 taken_slots Count = 0
 taken_slots (Sum f) = field_slots f
-taken_slots (Least f) = field_slots f + 2
-taken_slots (Greatest f) = field_slots f
+taken_slots (Least f) = ranked_slots f + 2
+taken_slots (Greatest f) = ranked_slots f
 
 abbrev pub change_slots : Tally → ℕ
 change_slots Count = 1

@@ -1,21 +1,42 @@
 -- What is tallied of records, and what it comes to.
-use Rattle.std.specs.Prelude.{ℕ, ◌≡◌, ◌+◌, ◌-◌, ◌*◌, ◌<◌, ◌≤◌, ◌%◌, ◌^◌, max, List, [], ◌∷◌, length, get_or, map}
+use Rattle.std.specs.Prelude.{ℕ, ℤ, pos, ◌≡◌, ◌+◌, ◌-◌, ◌*◌, ◌<◌, ◌≤◌, ◌%◌, ◌^◌, ◌+ℤ◌, ◌-ℤ◌, ◌≤ℤ◌, unsigned_abs, max, List, [], ◌∷◌, length, get_or, map}
+use Rattle.std.specs.Int.{w64, cast_unsigned, int_rem_euclid}
 use Rattle.std.specs.List.{AllByRecursion, Contains, sum_by}
 use Rattle.byteorder.specs.Endian.{little_bytes}
 use Rattle.common_definitions.specs.Bytes.{AreBytes, field, spliced}
 use Rattle.program_interface.specs.declared.area.TheConstants.{SCRATCH_BYTES}
+use Rattle.record_questions.specs.declared.question.Sign.{Sign}
+use Rattle.record_questions.specs.declared.question.Sign.TheVariants.{Unsigned, Signed}
 use Rattle.record_questions.specs.declared.question.Field.{Field}
 use Rattle.record_questions.specs.declared.question.Tally.{Tally}
 use Rattle.record_questions.specs.declared.question.Tally.TheVariants.{Count, Sum, Least, Greatest}
 use Rattle.record_questions.specs.declared.question.Question.{Question}
-use Rattle.record_questions.specs.Question.{number_in}
+use Rattle.record_questions.specs.Question.{number_in, value_of}
+
+-- the word that a field of a record is loaded as: its value, in two's complement
+abbrev pub word_in : Field → List ℕ → ℕ
+word_in f r = cast_unsigned w64 (value_of f r)
+
+-- how far a value is above the least that 64 bits hold of its sign
+abbrev pub rank_of : Sign → ℤ → ℕ
+rank_of Unsigned z = unsigned_abs z
+rank_of Signed z = unsigned_abs (z +ℤ pos (2 ^ 63))
+
+-- the value that is so far above it
+abbrev pub value_at : Sign → ℕ → ℤ
+value_at Unsigned rank = pos rank
+value_at Signed rank = pos rank -ℤ pos (2 ^ 63)
+
+-- the rank of a field's value
+abbrev pub rank_in : Field → List ℕ → ℕ
+rank_in f r = rank_of f.sign (value_of f r)
 
 -- a tally's word with one record more
 abbrev pub tally_step : Tally → List ℕ → ℕ → ℕ
 tally_step Count r word = (word + 1) % 2 ^ 64
-tally_step (Sum f) r word = (word + number_in f r) % 2 ^ 64
-tally_step (Least f) r word = max word (2 ^ 64 - 1 - number_in f r)
-tally_step (Greatest f) r word = max word (number_in f r)
+tally_step (Sum f) r word = (word + word_in f r) % 2 ^ 64
+tally_step (Least f) r word = max word (2 ^ 64 - 1 - rank_in f r)
+tally_step (Greatest f) r word = max word (rank_in f r)
 
 -- scratch with one record more: each tally has a word of its own, of eight bytes
 abbrev pub tallied_from : ℕ → List Tally → List ℕ → List ℕ → List ℕ
@@ -41,19 +62,27 @@ WordsAreTallied = (q : Question) (rs : List (List ℕ)) (scratch : List ℕ)
     → field (tallied_of q rs scratch) (8 * i) 8 ≡ tally_from (get_or q.tallies.items i Count) rs (field scratch (8 * i) 8)
 
 -- x is the least of these numbers
-abbrev pub IsLeast : List ℕ → ℕ → Type 0
-IsLeast xs x = Contains xs x × AllByRecursion (λ y. x ≤ y) xs
+abbrev pub IsLeast : List ℤ → ℤ → Type 0
+IsLeast xs x = Contains xs x × AllByRecursion (λ y. x ≤ℤ y) xs
 
 -- x is the greatest of these numbers
-abbrev pub IsGreatest : List ℕ → ℕ → Type 0
-IsGreatest xs x = Contains xs x × AllByRecursion (λ y. y ≤ x) xs
+abbrev pub IsGreatest : List ℤ → ℤ → Type 0
+IsGreatest xs x = Contains xs x × AllByRecursion (λ y. y ≤ℤ x) xs
+
+-- the sum of a field's values
+abbrev pub total_of : Field → List (List ℕ) → ℤ
+total_of f [] = pos 0
+total_of f (r ∷ rs) = value_of f r +ℤ total_of f rs
 
 -- Begun at 0, a tally of records is their number or the sum of a field, modulo 2^64, or the least or the greatest of a field. The
--- word has the least subtracted from 2^64 - 1. Of no records, both words are 0.
+-- word of a greatest is its rank, and that of a least has the rank subtracted from 2^64 - 1. Of no records, both words are 0.
 pub record TalliesAreTotals : Type 0 where
   pub count : (rs : List (List ℕ)) → AllByRecursion AreBytes rs → tally_from Count rs 0 ≡ length rs % 2 ^ 64
-  pub sum : (f : Field) (rs : List (List ℕ)) → AllByRecursion AreBytes rs → tally_from (Sum f) rs 0 ≡ sum_by (number_in f) rs % 2 ^ 64
+  pub sum : (f : Field) (rs : List (List ℕ)) → AllByRecursion AreBytes rs
+      → pos (tally_from (Sum f) rs 0) ≡ int_rem_euclid (total_of f rs) (pos (2 ^ 64))
+  pub unsigned_sum : (f : Field) (rs : List (List ℕ)) → f.sign ≡ Unsigned → AllByRecursion AreBytes rs
+      → tally_from (Sum f) rs 0 ≡ sum_by (number_in f) rs % 2 ^ 64
   pub least : (f : Field) (rs : List (List ℕ)) → AllByRecursion AreBytes rs → 1 ≤ length rs
-      → IsLeast (map (number_in f) rs) (2 ^ 64 - 1 - tally_from (Least f) rs 0)
+      → IsLeast (map (value_of f) rs) (value_at f.sign (2 ^ 64 - 1 - tally_from (Least f) rs 0))
   pub greatest : (f : Field) (rs : List (List ℕ)) → AllByRecursion AreBytes rs → 1 ≤ length rs
-      → IsGreatest (map (number_in f) rs) (tally_from (Greatest f) rs 0)
+      → IsGreatest (map (value_of f) rs) (value_at f.sign (tally_from (Greatest f) rs 0))

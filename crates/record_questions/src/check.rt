@@ -3,7 +3,7 @@
 ghost use Rattle.std.specs.Prelude.{◌≡◌, ◌≤◌, ◌+◌, IsTrue, ◌↔◌, length};
 ghost use Rattle.common_definitions.specs.Bytes.{AreBytes};
 ghost use Rattle.instruction_set.specs.Instruction.{size_of};
-ghost use Rattle.record_questions.specs.Asked.{AreTallies, IsField, IsNumber, IsOperand, IsPredicate, IsQuestion, IsRange, IsTallied, IsTally};
+ghost use Rattle.record_questions.specs.Asked.{AreTallies, IsField, IsNumber, IsOperand, IsPredicate, IsQuestion, IsRange, IsTally};
 
 use crate::question::{ByteRange, Field, Operand, Predicate, Question, Sign, Tally};
 use instruction_set::Size;
@@ -89,22 +89,13 @@ fn is_range(bytes: u16, range: Option<ByteRange>) -> bool
     }
 }
 
-/// Can a field be tallied?
-fn is_tallied(bytes: u16, field: Field) -> bool
-    ensures { IsTrue result ↔ IsTallied bytes field }
-{
-    is_field(bytes, field) && field.sign == Sign::Unsigned
-}
-
 /// Can this be tallied of a record of so many bytes?
 fn is_tally(bytes: u16, tally: Tally) -> bool
     ensures { IsTrue result ↔ IsTally bytes tally }
 {
     match tally {
         Tally::Count => true,
-        Tally::Sum(field) | Tally::Least(field) | Tally::Greatest(field) => is_tallied(
-            bytes, field,
-        ),
+        Tally::Sum(field) | Tally::Least(field) | Tally::Greatest(field) => is_field(bytes, field),
     }
 }
 

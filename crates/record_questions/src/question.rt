@@ -102,12 +102,13 @@ pub struct ByteRange {
 pub enum Tally {
     /// Their number, modulo 2^64.
     Count,
-    /// The sum of a field, modulo 2^64.
+    /// The sum of a field, modulo 2^64: in two's complement where the field is signed.
     Sum(Field),
-    /// The least value of a field. The word has it subtracted from 2^64 - 1. It is 0 for no record, and where the least is 2^64 - 1:
-    /// the count says which.
+    /// The least value of a field. The word is 2^64 - 1 minus the rank of the value: the value itself, or with 2^63 added where the field
+    /// is signed. It is 0 for no record, and where the least is the greatest that 64 bits hold: the count says which.
     Least(Field),
-    /// The greatest value of a field. It is 0 for no record, and where the greatest is 0: the count says which.
+    /// The greatest value of a field. The word is its rank. It is 0 for no record, and where the greatest is the least that 64 bits hold:
+    /// the count says which.
     Greatest(Field),
 }
 

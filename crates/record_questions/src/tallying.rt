@@ -2,25 +2,36 @@
 
 ghost use Rattle.std.specs.Prelude.{◌≡◌, ◌≤◌, ◌<◌, ◌-◌, ◌*◌, ◌^◌, ◌∷◌, ◌++◌, [], length, pos, ◌+◌, OnOk};
 ghost use Rattle.program_interface.specs.declared.area.TheConstants.{SCRATCH_BYTES};
-ghost use Rattle.record_questions.specs.Asked.{AreTallies, IsTally};
-ghost use Rattle.record_questions.specs.Code.{counted, change_code, change_slots, tallies_code, tallies_slots, tally_code, taken_code, taken_slots};
+ghost use Rattle.record_questions.specs.Asked.{AreTallies, IsField, IsTally};
+ghost use Rattle.record_questions.specs.Code.{counted, change_code, change_slots, rank_code, rank_slots, ranked_code, ranked_slots, tallies_code, tallies_slots, tally_code, taken_code, taken_slots};
 
 use crate::emitting::{arithmetic, from_register, load, push, short};
 use crate::loads::{field_slots, push_field};
-use crate::question::Tally;
+use crate::question::{Field, Sign, Tally};
 use instruction_set::{Instruction, Operation, Register, Relation, Size, Source, Width};
 use std::alloc::AllocError;
+
+/// How many slots it takes to have the rank of a field's value.
+fn ranked_slots(field: Field) -> u64
+    ensures value { result ≡ ranked_slots field }
+    ensures few { result ≤ 6 }
+{
+    match field.sign {
+        Sign::Unsigned => field_slots(field),
+        Sign::Signed => field_slots(field) + 3,
+    }
+}
 
 /// How many slots it takes to have the number that a tally takes of a record.
 fn taken_slots(tally: Tally) -> u64
     ensures value { result ≡ taken_slots tally }
-    ensures few { result ≤ 5 }
+    ensures few { result ≤ 8 }
 {
     match tally {
         Tally::Count => 0,
         Tally::Sum(field) => field_slots(field),
-        Tally::Least(field) => field_slots(field) + 2,
-        Tally::Greatest(field) => field_slots(field),
+        Tally::Least(field) => ranked_slots(field) + 2,
+        Tally::Greatest(field) => ranked_slots(field),
     }
 }
 
@@ -46,6 +57,34 @@ pub(crate) fn tallies_slots(tallies: &[Tally]) -> u64
     slots
 }
 
+/// Adds 2^63 to a signed value in R5.
+fn push_rank(code: &mut Vec<Instruction>, sign: Sign) -> Result<(), AllocError>
+    ensures { OnOk result (code.new.items ≡ code.old.items ++ rank_code sign) }
+{
+    match sign {
+        Sign::Unsigned => Ok(()),
+        Sign::Signed => {
+            push(
+                code,
+                Instruction::LoadImmediate {
+                    dst: Register::from_number(4),
+                    value: 0x8000_0000_0000_0000,
+                },
+            )?;
+            push(code, arithmetic(Operation::Add, 5, from_register(4)))
+        }
+    }
+}
+
+/// The rank of a field's value, of the record at a byte of the block, in R5.
+fn push_ranked(code: &mut Vec<Instruction>, byte: u32, field: Field) -> Result<(), AllocError>
+    requires { IsField (2 ^ 15 - byte) field }
+    ensures { OnOk result (code.new.items ≡ code.old.items ++ ranked_code byte field) }
+{
+    push_field(code, 5, byte, field)?;
+    push_rank(code, field.sign)
+}
+
 /// The number that a tally takes of the record at a byte of the block, in R5.
 fn push_taken(code: &mut Vec<Instruction>, byte: u32, tally: Tally) -> Result<(), AllocError>
     requires { IsTally (2 ^ 15 - byte) tally }
@@ -53,9 +92,10 @@ fn push_taken(code: &mut Vec<Instruction>, byte: u32, tally: Tally) -> Result<()
 {
     match tally {
         Tally::Count => Ok(()),
-        Tally::Sum(field) | Tally::Greatest(field) => push_field(code, 5, byte, field),
+        Tally::Sum(field) => push_field(code, 5, byte, field),
+        Tally::Greatest(field) => push_ranked(code, byte, field),
         Tally::Least(field) => {
-            push_field(code, 5, byte, field)?;
+            push_ranked(code, byte, field)?;
             push(
                 code,
                 Instruction::Negate {
