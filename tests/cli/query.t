@@ -90,6 +90,14 @@ Tallies of all that match. Of no record there is no least and no greatest.
   $ query --where 'region == 9' --count --sum price --least price --greatest number
   count,sum(price),least(price),greatest(number)
   0,0,,
+  $ query --where 'region != 3' --sum temperature --least temperature --greatest temperature | tee answer
+  sum(temperature),least(temperature),greatest(temperature)
+  670,-189,196
+  $ same 'select sum(temperature) as "sum(temperature)", min(temperature) as "least(temperature)", max(temperature) as "greatest(temperature)" from orders where region <> 3'
+  $ query --where 'temperature < -150' --sum temperature --least temperature --greatest temperature | tee answer
+  sum(temperature),least(temperature),greatest(temperature)
+  -1062,-197,-157
+  $ same 'select sum(temperature) as "sum(temperature)", min(temperature) as "least(temperature)", max(temperature) as "greatest(temperature)" from orders where temperature < -150'
 
 Other forms: JSON, and bytes.
 
@@ -259,8 +267,8 @@ What isn't understood is refused, with the column and what is possible there.
   --select: the layout has no field `regon`; it has number, region, price, temperature, word
   question refused
   [3]
-  $ query --where 'region == 3' --sum temperature
-  --sum temperature: only unsigned numbers are tallied, of the types u8, u16, u32 and u64
+  $ query --where 'region == 3' --sum word
+  --sum word: only numbers are tallied, of the types u8 to u64 and i8 to i64
   question refused
   [3]
   $ query --where 'region == 3' --count --select number

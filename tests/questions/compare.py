@@ -188,9 +188,8 @@ class Question:
 
     def asked(self, matching: List[bytes]) -> Tuple[List[str], bytes]:
         """The words, and what is printed of the records that match."""
-        unsigned = [field for field in self.fields if not field.signed]
         if self.rng.random() < 0.3:
-            return self.tallies(matching, unsigned)
+            return self.tallies(matching)
         fields = self.rng.sample(self.fields, self.rng.randint(1, len(self.fields)))
         words = ["--select", ",".join(field.name for field in fields)]
         form = self.rng.choice(["--csv", "--json", "--raw"])
@@ -209,16 +208,16 @@ class Question:
             return ("[" + ",\n".join(objects) + "]\n").encode()
         return "".join(",".join(map(str, row)) + "\n" for row in [names, *rows]).encode()
 
-    def tallies(self, matching: List[bytes], unsigned: List[Field]) -> Tuple[List[str], bytes]:
+    def tallies(self, matching: List[bytes]) -> Tuple[List[str], bytes]:
         """A row of tallies."""
         words, names, values = ["--count"], ["count"], [str(len(matching))]
         for option in ["sum", "least", "greatest"]:
-            if not unsigned or self.rng.random() < 0.4:
+            if self.rng.random() < 0.4:
                 continue
-            field = self.rng.choice(unsigned)
+            field = self.rng.choice(self.fields)
             words += [f"--{option}", field.name]
             names.append(f"{option}({field.name})")
-            values.append(tallied(option, [field.of(record) for record in matching]))
+            values.append(tallied(option, [field.of(record) for record in matching], field.signed))
         return words, f"{','.join(names)}\n{','.join(values)}\n".encode()
 
     def case(self) -> Case:
@@ -233,14 +232,15 @@ class Question:
         return Case(files, front + words, printed)
 
 
-def tallied(option: str, values: List[int]) -> str:
+def tallied(option: str, values: List[int], signed: bool) -> str:
     """What a tally of values comes to.
 
-    >>> tallied("sum", [2**64 - 1, 2]), tallied("least", [])
-    ('1', '')
+    >>> tallied("sum", [2**64 - 1, 2], False), tallied("sum", [2**63 - 1, 2], True), tallied("least", [], False)
+    ('1', '-9223372036854775807', '')
     """
     if option == "sum":
-        return str(sum(values) % 2**64)
+        total = sum(values) % 2**64
+        return str(total - 2**64 if signed and total >= 2**63 else total)
     if not values:
         return ""
     return str(min(values) if option == "least" else max(values))
