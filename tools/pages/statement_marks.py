@@ -227,10 +227,10 @@ MARKS: Dict[str, str] = {
         "P: number_of number_in signed_by value_of operand_value compares matches records_in matching cut cuts answer"
     ),
     "record_questions/specs/Tallies.antt": (
-        "P: tally_step tallied_from tallied_of tally_from; -: IsLeast IsGreatest WordsAreTallied TalliesAreTotals"
+        "P: word_in rank_of value_at rank_in tally_step tallied_from tallied_of tally_from; -: IsLeast IsGreatest total_of WordsAreTallied TalliesAreTotals"
     ),
     "record_questions/specs/Asked.antt": (
-        "P: IsField IsNumber IsOperand IsPredicate IsRange IsTallied IsTally AreTallies IsQuestion"
+        "P: IsField IsNumber IsOperand IsPredicate IsRange IsTally AreTallies IsQuestion"
     ),
     "question_runs/specs/Loaded.antt": "-: IsProgramOf HasQuestion NoEventLoads load_by QuestionWasLoaded CompiledQuestionsLoad",
     "question_compiler/specs/Compiled.antt": "-: IsCompiled",
