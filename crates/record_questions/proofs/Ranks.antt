@@ -67,8 +67,8 @@ sum_near f (r ∷ rs) word are =
     let rest = sum_near f rs ((word + x) % 2 ^ 64) are.1 in
     let d = (word + x) / 2 ^ 64 in
     let a = near.1 in
-    let b = rest.1.1 in
-    (rest.0 + near.0, rest.1.0 + d, omega (arith, ints, a, b))
+    let b = rest.2 in
+    (rest.0 + near.0, rest.1 + d, omega (arith, ints, a, b))
 
 sum_small : (f : Field) (rs : List (List ℕ)) (word : ℕ) → word < 2 ^ 64 → tally_from (Sum f) rs word < 2 ^ 64
 sum_small f [] word small = small
@@ -80,10 +80,10 @@ sum_is f rs are =
     let near = sum_near f rs 0 are in
     let word = tally_from (Sum f) rs 0 in
     let small = sum_small f rs 0 (lit< tt) in
-    let b = near.1.1 in
-    let e : total_of f rs +ℤ pos (near.0 * 2 ^ 64) ≡ pos (word + near.1.0 * 2 ^ 64) = omega (arith, ints, b) in
-    let back : word ≡ (word + near.1.0 * 2 ^ 64) % 2 ^ 64 = omega (arith, small) in
-    ap (λ (n : ℕ). pos n) back ∙ sym (int_rem_euclid_is (total_of f rs) (pos (2 ^ 64)) (2 ^ 64) near.0 (word + near.1.0 * 2 ^ 64) (lit< tt) refl e)
+    let b = near.2 in
+    let e : total_of f rs +ℤ pos (near.0 * 2 ^ 64) ≡ pos (word + near.1 * 2 ^ 64) = omega (arith, ints, b) in
+    let back : word ≡ (word + near.1 * 2 ^ 64) % 2 ^ 64 = omega (arith, small) in
+    ap (λ (n : ℕ). pos n) back ∙ sym (int_rem_euclid_is (total_of f rs) (pos (2 ^ 64)) (2 ^ 64) near.0 (word + near.1 * 2 ^ 64) (lit< tt) refl e)
 
 unsigned_value : (f : Field) (r : List ℕ) → f.sign ≡ Unsigned → value_of f r ≡ pos (number_in f r)
 unsigned_value f r e = rw e refl
