@@ -235,9 +235,10 @@ least_is f rs are some =
     let top = top_of (map rest_of xs) 0 in
     let fit = ranks_fit f rs are in
     let long : 1 ≤ length (map rest_of xs) = omega (arith, some, length-map xs rest_of, length-map rs (rank_in f)) in
-    subst (λ x. IsLeast (map (value_of f) rs) (value_at f.sign (rest_of x))) (sym (least_is_top f rs 0))
-    (value_there f rs (rest_of top) are (rest_among xs top fit (top_among (map rest_of xs) long)),
-    values_above f rs (rest_of top) are (rest_all xs top fit (top_all (map rest_of xs) 0)))
+    subst (λ x. IsLeast (map (value_of f) rs) (value_at f.sign (rest_of x))) (sym (least_is_top f rs 0)) (
+      value_there f rs (rest_of top) are (rest_among xs top fit (top_among (map rest_of xs) long)),
+      values_above f rs (rest_of top) are (rest_all xs top fit (top_all (map rest_of xs) 0)),
+    )
 
 greatest_is : (f : Field) (rs : List (List ℕ)) → AllByRecursion AreBytes rs → 1 ≤ length rs
     → IsGreatest (map (value_of f) rs) (value_at f.sign (tally_from (Greatest f) rs 0))
