@@ -10,7 +10,10 @@ mod Comparisons
 mod Course
 mod Tests
 mod Matches
+mod Groups
 mod Records
 mod Words
+mod GroupWords
+mod Totals
 mod Reach
 mod Counts

@@ -16,11 +16,11 @@ use Rattle.instruction_set.specs.declared.operation.Relation.TheVariants as jump
 use Rattle.instruction_set.specs.declared.operation.Width.TheVariants.{Bits64}
 use Rattle.program_interface.specs.Area.{address_of}
 use Rattle.program_interface.specs.Frame.{frame}
-use Rattle.program_interface.specs.declared.area.Area.TheVariants.{Block}
+use Rattle.program_interface.specs.declared.area.Area.TheVariants.{Block, Scratch}
 use Rattle.program_interface.specs.declared.area.TheConstants.{SCRATCH_BYTES}
 use Rattle.program_interface.specs.declared.frame.TheConstants.{EMIT}
 use Rattle.program_meaning.specs.Effect.{bytes_at}
-use Rattle.program_meaning.specs.Memory.{Memory}
+use Rattle.program_meaning.specs.Memory.{Memory, loaded, stored}
 use Rattle.program_meaning.specs.Step.{slot_number}
 use Rattle.record_questions.proofs.Accesses.{address_is, emitted_is, scratch_loaded_is, scratch_stored_is}
 use Rattle.record_questions.proofs.Course.{At, ComesTo, Course, Fifth, Temporaries, between, field_comes, moved}
@@ -66,25 +66,25 @@ change_slots_are (Sum f) = refl
 change_slots_are (Least f) = refl
 change_slots_are (Greatest f) = refl
 
-tally_slots_are : (byte at : ℕ) (y : Tally) → slot_count (tally_code byte at y) ≡ taken_slots y + (change_slots y + 2)
-tally_slots_are byte at y =
+tally_slots_are : (base byte at : ℕ) (y : Tally) → slot_count (tally_code base byte at y) ≡ taken_slots y + (change_slots y + 2)
+tally_slots_are base byte at y =
     let a = taken_slots_are byte y in
     let b = change_slots_are y in
-    let store = StoreRegister DoubleWord 7 4 (pos at) ∷ [] in
+    let store = StoreRegister DoubleWord base 4 (pos at) ∷ [] in
     omega (
       arith,
       a,
       b,
-      slot_count-append (taken_code byte y) (Load DoubleWord 4 7 (pos at) ∷ (change_code y ++ store)),
+      slot_count-append (taken_code byte y) (Load DoubleWord 4 base (pos at) ∷ (change_code y ++ store)),
       slot_count-append (change_code y) store,
     )
 
-pub tallies_slots_are : (byte at : ℕ) (ys : List Tally) → slot_count (tallies_code byte at ys) ≡ tallies_slots ys
-tallies_slots_are byte at [] = refl
-tallies_slots_are byte at (y ∷ ys) =
-    let a = tally_slots_are byte at y in
-    let b = tallies_slots_are byte (at + 8) ys in
-    omega (arith, a, b, slot_count-append (tally_code byte at y) (tallies_code byte (at + 8) ys))
+pub tallies_slots_are : (base byte at : ℕ) (ys : List Tally) → slot_count (tallies_code base byte at ys) ≡ tallies_slots ys
+tallies_slots_are base byte at [] = refl
+tallies_slots_are base byte at (y ∷ ys) =
+    let a = tally_slots_are base byte at y in
+    let b = tallies_slots_are base byte (at + 8) ys in
+    omega (arith, a, b, slot_count-append (tally_code base byte at y) (tallies_code base byte (at + 8) ys))
 
 -- ---- what a tally takes of a record
 
@@ -128,24 +128,60 @@ max_first w x le = omega arith
 max_second : (w x : ℕ) → nat_le x w ≡ false → x ≡ max w x
 max_second w x e = grind (arith, nat_tests)
 
+-- the register with the address of a group's first word: R7, that of scratch, or R3
+pub data Base : Type 0 where
+  Seventh : Base
+  Third : Base
+
+abbrev pub base_register : Base → ℕ
+base_register Seventh = 7
+base_register Third = 3
+
+-- it has the address of a byte of scratch, where R3 is so
+abbrev pub IsBase : Base → ℕ → ℕ → Type 0
+IsBase Seventh start third = start ≡ 0
+IsBase Third start third = third ≡ address_of Scratch + start
+
 module _ (w : Course) (group : List ℕ) (frames : ℕ) where
+  -- the block run comes to this slot, between pieces, with that address
+  pub record Based (b : Base) (start : ℕ) (scratch : List ℕ) (slot : ℕ) : Type 0 where
+    pub t : Temporaries
+    pub reached : At w scratch group frames slot t
+    pub base : IsBase b start t.r3
+
   -- ---- words of scratch
 
-  word_loaded : (slot at : ℕ) (scratch : List ℕ) (t : Temporaries) → at + 8 ≤ SCRATCH_BYTES
-      → instruction_at w.program slot ≡ Some (Load DoubleWord 4 7 (pos at)) → At w scratch group frames slot t
-      → At w scratch group frames (slot + 1) (record t { r4 = field scratch at 8 })
-  word_loaded slot at scratch t inside stands r =
+  word_loaded : (b : Base) (start slot at place : ℕ) (scratch : List ℕ) (t : Temporaries) → IsBase b start t.r3 → place ≡ start + at
+      → place + 8 ≤ SCRATCH_BYTES → instruction_at w.program slot ≡ Some (Load DoubleWord 4 (base_register b) (pos at))
+      → At w scratch group frames slot t → At w scratch group frames (slot + 1) (record t { r4 = field scratch place 8 })
+  word_loaded Seventh start slot at place scratch t is e inside stands r =
+      let m = record w.memory { scratch = scratch } in
+      let same : at ≡ place = omega (arith, e, is) in
       subst (λ x. At w scratch group frames (slot + 1) (record t { r4 = x }))
-      (scratch_loaded_is (record w.memory { scratch = scratch }) w.short at inside)
+      (ap (λ (k : ℕ). loaded m ((address_of Scratch + k) % 2 ^ 64) 8) same ∙ scratch_loaded_is m w.short place inside)
       (goes w.program w.limit w.fuel w.start w.exits (between w slot t scratch group frames) (Load DoubleWord 4 7 (pos at)) stands refl r)
+  word_loaded Third start slot at place scratch t is e inside stands r =
+      let m = record w.memory { scratch = scratch } in
+      let same : t.r3 + at ≡ address_of Scratch + place = omega (arith, e, is) in
+      subst (λ x. At w scratch group frames (slot + 1) (record t { r4 = x }))
+      (ap (λ (k : ℕ). loaded m (k % 2 ^ 64) 8) same ∙ scratch_loaded_is m w.short place inside)
+      (goes w.program w.limit w.fuel w.start w.exits (between w slot t scratch group frames) (Load DoubleWord 4 3 (pos at)) stands refl r)
 
-  word_stored : (slot at : ℕ) (scratch : List ℕ) (t : Temporaries) → at + 8 ≤ SCRATCH_BYTES
-      → instruction_at w.program slot ≡ Some (StoreRegister DoubleWord 7 4 (pos at)) → At w scratch group frames slot t
-      → At w (spliced at (little_bytes 8 t.r4) scratch) group frames (slot + 1) t
-  word_stored slot at scratch t inside stands r =
-      let raw = goes w.program w.limit w.fuel w.start w.exits (between w slot t scratch group frames) (StoreRegister DoubleWord 7 4 (pos at)) stands refl r in
+  word_stored : (b : Base) (start slot at place : ℕ) (scratch : List ℕ) (t : Temporaries) → IsBase b start t.r3 → place ≡ start + at
+      → place + 8 ≤ SCRATCH_BYTES → instruction_at w.program slot ≡ Some (StoreRegister DoubleWord (base_register b) 4 (pos at))
+      → At w scratch group frames slot t → At w (spliced place (little_bytes 8 t.r4) scratch) group frames (slot + 1) t
+  word_stored Seventh start slot at place scratch t is e inside stands r =
+      let m = record w.memory { scratch = scratch } in
+      let same : at ≡ place = omega (arith, e, is) in
       subst (λ (n : Memory). ComesTo w (record (between w (slot + 1) t scratch group frames) { memory = n }))
-      (scratch_stored_is (record w.memory { scratch = scratch }) w.short at inside t.r4) raw
+      (ap (λ (k : ℕ). stored m ((address_of Scratch + k) % 2 ^ 64) DoubleWord t.r4) same ∙ scratch_stored_is m w.short place inside t.r4)
+      (goes w.program w.limit w.fuel w.start w.exits (between w slot t scratch group frames) (StoreRegister DoubleWord 7 4 (pos at)) stands refl r)
+  word_stored Third start slot at place scratch t is e inside stands r =
+      let m = record w.memory { scratch = scratch } in
+      let same : t.r3 + at ≡ address_of Scratch + place = omega (arith, e, is) in
+      subst (λ (n : Memory). ComesTo w (record (between w (slot + 1) t scratch group frames) { memory = n }))
+      (ap (λ (k : ℕ). stored m (k % 2 ^ 64) DoubleWord t.r4) same ∙ scratch_stored_is m w.short place inside t.r4)
+      (goes w.program w.limit w.fuel w.start w.exits (between w slot t scratch group frames) (StoreRegister DoubleWord 3 4 (pos at)) stands refl r)
 
   -- ---- one tally
 
@@ -237,46 +273,50 @@ module _ (w : Course) (group : List ℕ) (frames : ℕ) where
     change_comes (Least f) slot t stands r = greatest_comes slot t stands r
     change_comes (Greatest f) slot t stands r = greatest_comes slot t stands r
 
-    tally_comes : (y : Tally) (slot byte size at : ℕ) → IsTally size y → byte + size ≤ length w.memory.block → at + 8 ≤ SCRATCH_BYTES
-        → Stands w.program slot (tally_code byte at y) → Comes w scratch group frames slot
-        → Comes w (spliced at (little_bytes 8 (tally_step y (take size (drop byte w.memory.block)) (field scratch at 8))) scratch) group frames
-        (slot + slot_count (tally_code byte at y))
-    tally_comes y slot byte size at is fits room stands come =
+    tally_comes : (y : Tally) (b : Base) (start slot byte size at place : ℕ) → IsTally size y → byte + size ≤ length w.memory.block
+        → place ≡ start + at → place + 8 ≤ SCRATCH_BYTES
+        → Stands w.program slot (tally_code (base_register b) byte at y) → Based b start scratch slot
+        → Based b start (spliced place (little_bytes 8 (tally_step y (take size (drop byte w.memory.block)) (field scratch place 8))) scratch)
+        (slot + slot_count (tally_code (base_register b) byte at y))
+    tally_comes y b start slot byte size at place is fits e room stands come =
         let r = take size (drop byte w.memory.block) in
         let a = taken_code byte y in
-        let b = change_code y in
-        let store = StoreRegister DoubleWord 7 4 (pos at) ∷ [] in
-        let rest = Load DoubleWord 4 7 (pos at) ∷ (b ++ store) in
+        let c = change_code y in
+        let store = StoreRegister DoubleWord (base_register b) 4 (pos at) ∷ [] in
+        let rest = Load DoubleWord 4 (base_register b) (pos at) ∷ (c ++ store) in
         let later = back_stands w.program slot a rest stands in
         let n = slot + slot_count a in
         let x = taken_of y r come.t.r5 in
-        let word = field scratch at 8 in
+        let word = field scratch place 8 in
         let taken = taken_comes y slot byte size come.t is fits (front_stands w.program slot a rest stands) come.reached in
-        let loaded = word_loaded n at scratch (record come.t { r4 = after_taken y come.t.r4; r5 = x }) room later.0 taken in
+        let known = record come.t { r4 = after_taken y come.t.r4; r5 = x } in
+        let loaded = word_loaded b start n at place scratch known come.base e room later.0 taken in
         let t = record come.t { r4 = word; r5 = x } in
-        let done = change_comes y (n + 1) t (front_stands w.program (n + 1) b store later.1) loaded in
+        let done = change_comes y (n + 1) t (front_stands w.program (n + 1) c store later.1) loaded in
         let u = record t { r4 = changed y word x } in
-        let last = word_stored (n + 1 + slot_count b) at scratch u room (back_stands w.program (n + 1) b store later.1).0 done in
-        let e : n + 1 + slot_count b + 1 ≡ slot + slot_count (a ++ rest) = omega (arith, slot_count-append a rest, slot_count-append b store) in
+        let last = word_stored b start (n + 1 + slot_count c) at place scratch u come.base e room (back_stands w.program (n + 1) c store later.1).0 done in
+        let whole : n + 1 + slot_count c + 1 ≡ slot + slot_count (a ++ rest) = omega (arith, slot_count-append a rest, slot_count-append c store) in
         let same = changed_is y r word come.t.r5 in
-        let whole : Comes w (spliced at (little_bytes 8 (changed y word x)) scratch) group frames (slot + slot_count (a ++ rest))
-        = record { t = u; reached = moved w _ group frames _ _ u e last } in
-        subst (λ v. Comes w (spliced at (little_bytes 8 v) scratch) group frames (slot + slot_count (a ++ rest))) same whole
+        let all : Based b start (spliced place (little_bytes 8 (changed y word x)) scratch) (slot + slot_count (a ++ rest))
+        = record { t = u; reached = moved w _ group frames _ _ u whole last; base = come.base } in
+        subst (λ v. Based b start (spliced place (little_bytes 8 v) scratch) (slot + slot_count (a ++ rest))) same all
 
-  pub tallies_come : (ys : List Tally) (slot byte size at : ℕ) (scratch : List ℕ) → AreTallies size ys → byte + size ≤ length w.memory.block
-      → at + 8 * length ys ≤ SCRATCH_BYTES
-      → Stands w.program slot (tallies_code byte at ys) → Comes w scratch group frames slot
-      → Comes w (tallied_from at ys (take size (drop byte w.memory.block)) scratch) group frames (slot + slot_count (tallies_code byte at ys))
-  tallies_come [] slot byte size at scratch is fits room stands come =
-      let e : slot ≡ slot + 0 = omega arith in
-      at_slot w scratch group frames _ _ e come
-  tallies_come (y ∷ ys) slot byte size at scratch is fits room stands come =
-      let a = tally_code byte at y in
-      let b = tallies_code byte (at + 8) ys in
-      let this = tally_comes scratch y slot byte size at is.0 fits (omega arith) (front_stands w.program slot a b stands) come in
-      let rest = tallies_come ys (slot + slot_count a) byte size (at + 8) _ is.1 fits (omega arith) (back_stands w.program slot a b stands) this in
-      let e : slot + slot_count a + slot_count b ≡ slot + slot_count (a ++ b) = omega (arith, slot_count-append a b) in
-      at_slot w _ group frames _ _ e rest
+  pub tallies_come : (ys : List Tally) (b : Base) (start slot byte size at place : ℕ) (scratch : List ℕ) → AreTallies size ys
+      → byte + size ≤ length w.memory.block → place ≡ start + at → place + 8 * length ys ≤ SCRATCH_BYTES
+      → Stands w.program slot (tallies_code (base_register b) byte at ys) → Based b start scratch slot
+      → Comes w (tallied_from place ys (take size (drop byte w.memory.block)) scratch) group frames
+      (slot + slot_count (tallies_code (base_register b) byte at ys))
+  tallies_come [] b start slot byte size at place scratch is fits e room stands come =
+      let f : slot ≡ slot + 0 = omega arith in
+      at_slot w scratch group frames _ _ f (record { t = come.t; reached = come.reached })
+  tallies_come (y ∷ ys) b start slot byte size at place scratch is fits e room stands come =
+      let a = tally_code (base_register b) byte at y in
+      let c = tallies_code (base_register b) byte (at + 8) ys in
+      let this = tally_comes scratch y b start slot byte size at place is.0 fits e (omega arith) (front_stands w.program slot a c stands) come in
+      let rest = tallies_come ys b start (slot + slot_count a) byte size (at + 8) (place + 8) _ is.1 fits (omega (arith, e)) (omega arith)
+      (back_stands w.program slot a c stands) this in
+      let f : slot + slot_count a + slot_count c ≡ slot + slot_count (a ++ c) = omega (arith, slot_count-append a c) in
+      at_slot w _ group frames _ _ f rest
 
 module _ (w : Course) (scratch group : List ℕ) (frames : ℕ) where
   -- ---- emits

@@ -1,5 +1,5 @@
 -- The program of a question.
-use Rattle.std.specs.Prelude.{ℕ, ℤ, zero, suc, pos, neg_ℤ, Bool, true, false, not, ◌&&◌, ◌+◌, ◌/◌, ◌%◌, ◌-◌, ◌^◌, min, nat_le, replicate, drop, length, int_lt, int_le, if◌then◌else◌, List, [], ◌∷◌, ◌++◌, Option, Some, None}
+use Rattle.std.specs.Prelude.{ℕ, ℤ, zero, suc, pos, neg_ℤ, Bool, true, false, not, ◌&&◌, ◌+◌, ◌*◌, ◌/◌, ◌%◌, ◌-◌, ◌^◌, min, nat_le, replicate, drop, length, int_lt, int_le, if◌then◌else◌, List, [], ◌∷◌, ◌++◌, Option, Some, None}
 use Rattle.std.specs.Int.{w64, cast_unsigned}
 use Rattle.byteorder.specs.Endian.{little_number}
 use Rattle.instruction_set.specs.Instruction.{size_of}
@@ -8,7 +8,7 @@ use Rattle.instruction_set.specs.declared.instruction.Instruction.{Instruction}
 use Rattle.instruction_set.specs.declared.instruction.Instruction.TheVariants.{Load, LoadImmediate, Arithmetic, Branch, Call, Exit, Jump, MoveSigned, Negate, StoreRegister, SwapBytes}
 use Rattle.instruction_set.specs.declared.instruction.Source.{Source}
 use Rattle.instruction_set.specs.declared.instruction.Source.TheVariants.{Immediate, Register}
-use Rattle.instruction_set.specs.declared.operation.Operation.TheVariants.{Add, Move}
+use Rattle.instruction_set.specs.declared.operation.Operation.TheVariants.{Add, Subtract, Multiply, Move}
 use Rattle.instruction_set.specs.declared.operation.Relation.{Relation}
 use Rattle.instruction_set.specs.declared.operation.Relation.TheVariants as jumps
 use Rattle.instruction_set.specs.declared.operation.SignExtension.{SignExtension}
@@ -34,6 +34,7 @@ use Rattle.record_questions.specs.declared.question.Predicate.TheVariants.{Compa
 use Rattle.record_questions.specs.declared.question.ByteRange.{ByteRange}
 use Rattle.record_questions.specs.declared.question.Tally.{Tally}
 use Rattle.record_questions.specs.declared.question.Tally.TheVariants.{Count, Sum, Least, Greatest}
+use Rattle.record_questions.specs.declared.question.Grouping.{Grouping}
 use Rattle.record_questions.specs.declared.question.Question.{Question}
 
 -- a number, as far as 64 bits count
@@ -242,14 +243,14 @@ change_code (Sum f) = Arithmetic Bits64 Add 4 (Register 5) ∷ []
 change_code (Least f) = Branch Bits64 jumps.GreaterOrEqual 4 (Register 5) (pos 1) ∷ Arithmetic Bits64 Move 4 (Register 5) ∷ []
 change_code (Greatest f) = Branch Bits64 jumps.GreaterOrEqual 4 (Register 5) (pos 1) ∷ Arithmetic Bits64 Move 4 (Register 5) ∷ []
 
--- tallies the record at a byte of the block in the word at an offset of scratch
-abbrev pub tally_code : (byte at : ℕ) → Tally → List Instruction
-tally_code byte at t =
-    taken_code byte t ++ Load DoubleWord 4 7 (pos at) ∷ (change_code t ++ StoreRegister DoubleWord 7 4 (pos at) ∷ [])
+-- tallies the record at a byte of the block in the word at an offset from the address in a register
+abbrev pub tally_code : (base byte at : ℕ) → Tally → List Instruction
+tally_code base byte at t =
+    taken_code byte t ++ Load DoubleWord 4 base (pos at) ∷ (change_code t ++ StoreRegister DoubleWord base 4 (pos at) ∷ [])
 
-abbrev pub tallies_code : (byte at : ℕ) → List Tally → List Instruction
-tallies_code byte at [] = []
-tallies_code byte at (t ∷ ts) = tally_code byte at t ++ tallies_code byte (at + 8) ts
+abbrev pub tallies_code : (base byte at : ℕ) → List Tally → List Instruction
+tallies_code base byte at [] = []
+tallies_code base byte at (t ∷ ts) = tally_code base byte at t ++ tallies_code base byte (at + 8) ts
 
 abbrev pub taken_slots : Tally → ℕ
 taken_slots Count = 0
@@ -267,6 +268,28 @@ abbrev pub tallies_slots : List Tally → ℕ
 tallies_slots [] = 0
 tallies_slots (t ∷ ts) = taken_slots t + (change_slots t + 2) + tallies_slots ts
 
+-- Where the value in R5 is that of a group, R3 takes the address of the group's words: each group has so many. Else it jumps over the
+-- code of the tallies, which takes so many slots.
+abbrev pub base_code : Grouping → (words slots : ℕ) → List Instruction
+base_code by words slots =
+    Arithmetic Bits64 Subtract 5 (Immediate (pos by.first))
+    ∷ Branch Bits64 jumps.GreaterOrEqual 5 (Immediate (pos by.values)) (pos (3 + slots))
+    ∷ Arithmetic Bits64 Multiply 5 (Immediate (pos (8 * words)))
+    ∷ Arithmetic Bits64 Move 3 (Register 7) ∷ Arithmetic Bits64 Add 3 (Register 5) ∷ []
+
+abbrev pub group_slots : Grouping → ℕ
+group_slots by = field_slots by.field + 5
+
+-- tallies the record at a byte of the block in the words of its group
+abbrev pub grouped_code : (byte : ℕ) → Option Grouping → List Tally → List Instruction
+grouped_code byte None ts = tallies_code 7 byte 0 ts
+grouped_code byte (Some by) ts =
+    field_code 5 byte by.field ++ (base_code by (length ts) (tallies_slots ts) ++ tallies_code 3 byte 0 ts)
+
+abbrev pub grouped_slots : Option Grouping → List Tally → ℕ
+grouped_slots None ts = tallies_slots ts
+grouped_slots (Some by) ts = group_slots by + tallies_slots ts
+
 -- emits so many bytes from one of the block on
 abbrev pub emit_code : ℕ → ℕ → List Instruction
 emit_code at size =
@@ -283,10 +306,10 @@ range_slots None = 0
 range_slots (Some range) = 4
 
 abbrev pub match_code : Question → (byte : ℕ) → List Instruction
-match_code q byte = tallies_code byte 0 q.tallies.items ++ range_code byte q.emitted
+match_code q byte = grouped_code byte q.by q.tallies.items ++ range_code byte q.emitted
 
 abbrev pub match_slots : Question → ℕ
-match_slots q = tallies_slots q.tallies.items + range_slots q.emitted
+match_slots q = grouped_slots q.by q.tallies.items + range_slots q.emitted
 
 -- ---- records
 

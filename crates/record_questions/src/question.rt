@@ -112,6 +112,18 @@ pub enum Tally {
     Greatest(Field),
 }
 
+/// Groups of the records that match: by the value of a field, one for each of so many values from one on. A record whose value is none of
+/// them is in no group.
+#[derive(Clone, Copy, Debug, PartialEq, Eq)]
+pub struct Grouping {
+    /// The field, an unsigned one.
+    pub field: Field,
+    /// The value of the first group.
+    pub first: u16,
+    /// How many groups there are.
+    pub values: u16,
+}
+
 /// A question about the records of a block.
 #[derive(Drop)]
 pub struct Question {
@@ -125,6 +137,8 @@ pub struct Question {
     pub wanted: Predicate,
     /// Which bytes of each match are emitted, if any.
     pub emitted: Option<ByteRange>,
-    /// What is tallied of the matches, from the first word of scratch on.
+    /// What is tallied of the matches of each group, group by group, from the first word of scratch on.
     pub tallies: Vec<Tally>,
+    /// By what the matches are grouped, if they are; else they are one group.
+    pub by: Option<Grouping>,
 }
