@@ -209,16 +209,23 @@ class Question:
         return "".join(",".join(map(str, row)) + "\n" for row in [names, *rows]).encode()
 
     def tallies(self, matching: List[bytes]) -> Tuple[List[str], bytes]:
-        """A row of tallies."""
-        words, names, values = ["--count"], ["count"], [str(len(matching))]
-        for option in ["sum", "least", "greatest"]:
-            if self.rng.random() < 0.4:
-                continue
-            field = self.rng.choice(self.fields)
-            words += [f"--{option}", field.name]
-            names.append(f"{option}({field.name})")
-            values.append(tallied(option, [field.of(record) for record in matching], field.signed))
-        return words, f"{','.join(names)}\n{','.join(values)}\n".encode()
+        """A row of tallies, or a row for each value of a field."""
+        wanted = {option: self.rng.choice(self.fields) for option in ["sum", "least", "greatest"] if self.rng.random() < 0.6}
+        words = ["--count"] + [word for option, field in wanted.items() for word in (f"--{option}", field.name)]
+        names = ["count"] + [f"{option}({field.name})" for option, field in wanted.items()]
+
+        def row(records: List[bytes]) -> List[str]:
+            others = [tallied(option, [field.of(record) for record in records], field.signed) for option, field in wanted.items()]
+            return [str(len(records)), *others]
+
+        groups = self.rng.choice([None, *[field for field in self.fields if not field.signed]])
+        least = 256 if groups and groups.size == 1 else 128 // len(names)
+        if not groups or any(groups.of(record) >= least for record in matching):
+            return words, f"{','.join(names)}\n{','.join(row(matching))}\n".encode()
+        lines = [[groups.name, *names]]
+        for value in sorted({groups.of(record) for record in matching}):
+            lines.append([str(value), *row([record for record in matching if groups.of(record) == value])])
+        return [*words, "--by", groups.name], "".join(",".join(line) + "\n" for line in lines).encode()
 
     def case(self) -> Case:
         """The question."""

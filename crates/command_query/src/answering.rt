@@ -2,6 +2,7 @@
 
 use crate::columns::Column;
 use crate::commands::AskedDevice;
+use crate::grouped::Groups;
 use crate::parts::Part;
 use crate::records::push_rows;
 use crate::refused::refused;
@@ -33,8 +34,12 @@ pub(crate) struct Plan {
     pub(crate) question: Question,
     /// How many records of a block it is about.
     pub(crate) records: u16,
+    /// The groups of the records, if they are grouped.
+    pub(crate) groups: Option<Groups>,
     /// The programs.
     pub(crate) parts: Vec<Part>,
+    /// The programs that count the records that match and are of no group.
+    pub(crate) beyond: Vec<Part>,
     /// The zone that is appended to.
     pub(crate) destination: u32,
     /// The address of its first block.
@@ -92,7 +97,12 @@ impl Plan {
 
     /// How many runs there are.
     pub(crate) fn runs(&self) -> u64 {
-        u64::from(self.times()).saturating_mul(self.parts.len() as u64)
+        u64::from(self.times()).saturating_mul(self.programs())
+    }
+
+    /// How many programs there are.
+    pub(crate) fn programs(&self) -> u64 {
+        (self.parts.len() as u64).saturating_add(self.beyond.len() as u64)
     }
 }
 
@@ -109,10 +119,10 @@ pub(crate) fn answer<'a, O: Write>(
     out: &mut O,
 ) -> Result<(), Failure<'a>> {
     open(alloc, asked, plan)?;
-    load_all(alloc, asked, plan)?;
     let mut printing = Printed::new(alloc, form);
     match &plan.wanted {
         Wanted::Rows(columns) => {
+            load_all(alloc, asked, plan)?;
             answer_rows(alloc, asked, plan, columns.as_slice(), &mut printing, out)?;
         }
         Wanted::Tallies(tallies) => {
@@ -134,10 +144,20 @@ fn open<'a>(alloc: Global, asked: &mut AskedDevice, plan: &Plan) -> Result<(), F
 /// Loads the programs, each into a slot.
 fn load_all<'a>(alloc: Global, asked: &mut AskedDevice, plan: &Plan) -> Result<(), Failure<'a>> {
     for (index, part) in plan.parts.iter().enumerate() {
-        let limit = part.sizes.limit();
-        asked.load(alloc, slot_of(index), limit, part.program.as_slice())?;
+        load(alloc, asked, index, part)?;
     }
     Ok(())
+}
+
+/// Loads a program into the slot of this index.
+pub(crate) fn load<'a>(
+    alloc: Global,
+    asked: &mut AskedDevice,
+    index: usize,
+    part: &Part,
+) -> Result<(), Failure<'a>> {
+    let limit = part.sizes.limit();
+    asked.load(alloc, slot_of(index), limit, part.program.as_slice())
 }
 
 /// The slot of a program, of which there are no more than slots.

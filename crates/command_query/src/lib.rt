@@ -8,6 +8,7 @@ mod columns;
 mod commands;
 mod destination;
 mod explained;
+mod grouped;
 mod layout;
 mod layout_fault;
 mod parts;

@@ -9,6 +9,7 @@ use crate::answering::{Plan, answer, blocks_of_run};
 use crate::commands::AskedDevice;
 use crate::destination::{INTO, destination_for};
 use crate::explained::explained;
+use crate::grouped::{BY, Groups, beyond_of, groups_asked, parts_of_groups};
 use crate::layout::{RecordLayout, load};
 use crate::parts::{Part, parts_of};
 use crate::refused::refused;
@@ -64,7 +65,10 @@ A condition compares a field by ==, !=, <, <=, > or >= with a number, with `arg`
 than ||, ! takes what is next to it, and parentheses come before all. Numbers are decimal, or hexadecimal after 0x. A field that has no \
 name is written as u32@8; `bytes@8 == \"ab\"` and `bytes@8 == 0x6162` compare bytes.
 
---count, --sum, --least and --greatest tally the records that match; a sum is modulo 2^64. Of no record there is no least and no greatest.
+--count, --sum, --least and --greatest tally the records that match; a sum is modulo 2^64. Of no record there is no least and no greatest. \
+With --by each value of an unsigned field that records which match have is a row, in order. Of a field of one byte these are all its values, \
+and of a wider one those from 0 on that a program has room for: 128 for the count alone, and 64, 42 or 32 with one, two or three other \
+tallies. Where a record that matches has a greater value, nothing is printed, and a sentence says what to change.
 
 Rows come in the order of the blocks and of the records in them, below a line with the names, with commas; with --json as a list of \
 objects; with --raw as bytes, from the first field that is selected to the end of the last.
@@ -163,6 +167,13 @@ pub static WORDS: Words = Words {
             help: "Print the greatest value of a field",
         },
         Argument {
+            id: BY,
+            long: BY,
+            short: None,
+            takes: Takes::Optional("FIELD"),
+            help: "Print a row of tallies for each value of an unsigned field",
+        },
+        Argument {
             id: CSV,
             long: CSV,
             short: None,
@@ -235,10 +246,12 @@ pub fn query<'a, F: Files, O: Write, E: Write>(
     let layout = load(alloc, required(matches, LAYOUT), files)?;
     let wanted = wanted_of(alloc, matches, &layout)?;
     check_form(alloc, form, &wanted)?;
+    let groups = groups_asked(alloc, matches, &layout, &wanted)?;
     let request = Request {
         form,
         layout,
         wanted,
+        groups,
     };
     if required(matches, INTO).is_empty() || is_only_told(matches) {
         return ask_copy(alloc, matches, request, files, out, err);
@@ -255,6 +268,8 @@ struct Request {
     layout: RecordLayout,
     /// What is printed.
     wanted: Wanted,
+    /// The groups of the records, if they are grouped.
+    groups: Option<Groups>,
 }
 
 /// Do the words ask for what is known of the question, and not for its answer?
@@ -282,9 +297,10 @@ fn ask_copy<'a, F: Files, O: Write, E: Write>(
         form,
         layout,
         wanted,
+        groups,
     } = request;
     let device = device_file::load_copy(alloc, required(matches, IMAGE), files)?;
-    let plan = planned(alloc, matches, &layout, wanted, device.image())?;
+    let plan = planned(alloc, matches, &layout, wanted, groups, device.image())?;
     if required(matches, EXPLAIN) == "true" {
         let text = explained(alloc, &layout, &plan)?;
         return printed(out.write_all(text.as_bytes()));
@@ -318,10 +334,11 @@ fn ask_image<'a, F: Files, O: Write, E: Write>(
         form,
         layout,
         wanted,
+        groups,
     } = request;
     let path = required(matches, IMAGE);
     let device = device_file::load_to_replace::<Intervals, F>(alloc, path, files)?;
-    let plan = planned(alloc, matches, &layout, wanted, device.image())?;
+    let plan = planned(alloc, matches, &layout, wanted, groups, device.image())?;
     image_file::check_place(path, files)?;
     let mut asked = AskedDevice::new(alloc, device)?;
     answer(alloc, &mut asked, &plan, form, out)?;
@@ -336,6 +353,7 @@ fn planned<'a>(
     matches: &ArgMatches<'a>,
     layout: &RecordLayout,
     wanted: Wanted,
+    groups: Option<Groups>,
     image: &Image,
 ) -> Result<Plan, Failure<'a>> {
     let argument = number(matches, ARGUMENT_OPTION)?;
@@ -343,7 +361,15 @@ fn planned<'a>(
     let geometry = image.geometry();
     let mut question = question_asked(alloc, matches, layout, &wanted, geometry.block())?;
     let records = question.count;
-    let parts = parts_of(alloc, &mut question, geometry.block())?;
+    let parts = parts_of_groups(alloc, groups.as_ref(), &mut question, geometry.block())?;
+    let mut beyond = Vec::new(alloc);
+    if let Some(groups) = &groups {
+        if groups.may_lack() {
+            let all = question_asked(alloc, matches, layout, &wanted, geometry.block())?;
+            let mut lacking = beyond_of(alloc, groups, all)?;
+            beyond = parts_of(alloc, &mut lacking, geometry.block())?;
+        }
+    }
     let appends = question.emitted.is_some();
     let destination = destination_for(alloc, matches, image, source.zone, appends)?;
     let block = geometry.block();
@@ -355,7 +381,9 @@ fn planned<'a>(
         wanted,
         question,
         records,
+        groups,
         parts,
+        beyond,
         destination,
         destination_lba: first_of(destination, geometry.size()),
         is_kept: !required(matches, INTO).is_empty(),
@@ -422,7 +450,7 @@ fn write_program<'a, F: Files, O: Write>(
 fn note_runs<E: Write>(plan: &Plan, err: &mut E) {
     let runs = plan.runs();
     if runs > 1 {
-        let programs = Counted(plan.parts.len() as u64, "program");
+        let programs = Counted(plan.programs(), "program");
         let _told = writeln!(err, "note: {programs}, {runs} runs");
     }
 }

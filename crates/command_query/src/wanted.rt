@@ -141,7 +141,7 @@ fn all_columns<'a>(alloc: Global, layout: &RecordLayout) -> Result<Vec<Column>, 
 }
 
 /// The column with the name after an option.
-fn named_column<'a, 'l>(
+pub(crate) fn named_column<'a, 'l>(
     alloc: Global,
     option: &str,
     name: &str,
