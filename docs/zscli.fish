@@ -72,6 +72,7 @@ complete -c zscli -n '__zscli_begins query' -l count -d 'Print how many records 
 complete -c zscli -n '__zscli_begins query' -l sum -x -d 'Print the sum of a field'
 complete -c zscli -n '__zscli_begins query' -l least -x -d 'Print the least value of a field'
 complete -c zscli -n '__zscli_begins query' -l greatest -x -d 'Print the greatest value of a field'
+complete -c zscli -n '__zscli_begins query' -l by -x -d 'Print a row of tallies for each value of an unsigned field'
 complete -c zscli -n '__zscli_begins query' -l csv -d 'Print lines with commas, as without this'
 complete -c zscli -n '__zscli_begins query' -l json -d 'Print a JSON list of objects'
 complete -c zscli -n '__zscli_begins query' -l raw -d 'Print the bytes of the records'

@@ -116,6 +116,7 @@ _zscli_query() {
         '--sum[Print the sum of a field]:FIELD: ' \
         '--least[Print the least value of a field]:FIELD: ' \
         '--greatest[Print the greatest value of a field]:FIELD: ' \
+        '--by[Print a row of tallies for each value of an unsigned field]:FIELD: ' \
         '--csv[Print lines with commas, as without this]' \
         '--json[Print a JSON list of objects]' \
         '--raw[Print the bytes of the records]' \
