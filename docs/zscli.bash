@@ -5,7 +5,7 @@ _zscli() {
         --color) COMPREPLY=($(compgen -W "auto always never" -- "$word")); return ;;
         --state) COMPREPLY=($(compgen -W "all empty implicit explicit closed full readonly offline" -- "$word")); return ;;
         --commands | --data | --image | --into | --layout | --output | --program | --salvage) COMPREPLY=($(compgen -f -- "$word")); return ;;
-        --active | --argument | --block | --blocks | --capacity | --cid | --dwords | --emit | --from | --fuel | --function | --greatest | --guard-at | --lba | --least | --open | --part | --profile | --queue | --select | --size | --slot | --sum | --to | --where | --zone | --zones) return ;;
+        --active | --argument | --block | --blocks | --by | --capacity | --cid | --dwords | --emit | --from | --fuel | --function | --greatest | --guard-at | --lba | --least | --open | --part | --profile | --queue | --select | --size | --slot | --sum | --to | --where | --zone | --zones) return ;;
     esac
     [ "$COMP_CWORD" -gt 1 ] && words+=" ${COMP_WORDS[1]}"
     case "${COMP_WORDS[1]}" in
@@ -18,7 +18,7 @@ _zscli() {
         "zscli report") commands="" options="--json --map --color --help" ;;
         "zscli upgrade") commands="" options="--help" ;;
         "zscli exec") commands="" options="--profile --fail --stop --words --help" ;;
-        "zscli query") commands="" options="--block --zone --blocks --layout --where --argument --select --count --sum --least --greatest --csv --json --raw --into --explain --program --part --help" ;;
+        "zscli query") commands="" options="--block --zone --blocks --layout --where --argument --select --count --sum --least --greatest --by --csv --json --raw --into --explain --program --part --help" ;;
         "zscli serve") commands="" options="--frames --drain --durable --help" ;;
         "zscli fold") commands="" options="--salvage --help" ;;
         "zscli asm") commands="" options="--help" ;;

@@ -114,9 +114,10 @@ _zscli_query() {
         '--argument[The argument of the run, a number that the program is told]:A: ' \
         '--select[The fields that are printed, with commas between them \[default]:FIELDS: ' \
         '--count[Print how many records match]' \
-        '--sum[Print the sum of an unsigned field]:FIELD: ' \
-        '--least[Print the least value of an unsigned field]:FIELD: ' \
-        '--greatest[Print the greatest value of an unsigned field]:FIELD: ' \
+        '--sum[Print the sum of a field]:FIELD: ' \
+        '--least[Print the least value of a field]:FIELD: ' \
+        '--greatest[Print the greatest value of a field]:FIELD: ' \
+        '--by[Print a row of tallies for each value of an unsigned field]:FIELD: ' \
         '--csv[Print lines with commas, as without this]' \
         '--json[Print a JSON list of objects]' \
         '--raw[Print the bytes of the records]' \

@@ -90,6 +90,73 @@ Tallies of all that match. Of no record there is no least and no greatest.
   $ query --where 'region == 9' --count --sum price --least price --greatest number
   count,sum(price),least(price),greatest(number)
   0,0,,
+  $ query --where 'region != 3' --sum temperature --least temperature --greatest temperature | tee answer
+  sum(temperature),least(temperature),greatest(temperature)
+  670,-189,196
+  $ same 'select sum(temperature) as "sum(temperature)", min(temperature) as "least(temperature)", max(temperature) as "greatest(temperature)" from orders where region <> 3'
+  $ query --where 'temperature < -150' --sum temperature --least temperature --greatest temperature | tee answer
+  sum(temperature),least(temperature),greatest(temperature)
+  -1062,-197,-157
+  $ same 'select sum(temperature) as "sum(temperature)", min(temperature) as "least(temperature)", max(temperature) as "greatest(temperature)" from orders where temperature < -150'
+
+A row for each value of a field. A group that has no record has no row. The values of a byte are asked for in as many programs as they
+need; of a wider field there are as many groups as the words of one program allow, and a record that is of none is said.
+
+  $ query --where 'price > 20000' --count --sum price --least temperature --greatest temperature --by region 2> notes | tee answer
+  region,count,sum(price),least(temperature),greatest(temperature)
+  0,10,652805,-133,188
+  1,10,573615,-181,193
+  2,10,573615,-189,185
+  3,10,573615,-197,177
+  4,10,652805,-165,169
+  $ cat notes
+  note: 8 programs, 8 runs
+  $ same 'select region, count(*) as count, sum(price) as "sum(price)", min(temperature) as "least(temperature)", max(temperature) as "greatest(temperature)" from orders where price > 20000 group by region order by region'
+  $ query --where 'region == 3 && number < 64' --sum temperature --by number 2> notes | tee answer
+  number,sum(temperature)
+  4,-77
+  9,177
+  14,30
+  19,-117
+  24,137
+  29,-10
+  34,-157
+  39,97
+  44,-50
+  49,-197
+  54,57
+  59,-90
+  $ same 'select number, sum(temperature) as "sum(temperature)" from orders where region = 3 and number < 64 group by number order by number'
+  $ query --where 'region == 9' --count --by region
+  region,count
+  note: 2 programs, 2 runs
+  $ query --where 'number < 4' --count --by region --json
+  [{"region":1,"count":1},
+  {"region":2,"count":1},
+  {"region":4,"count":1}]
+  note: 2 programs, 2 runs
+  $ query --where 'region >= 0' --count --sum price --by number
+  --by number: of the records that match 1 have a value of 64 or more, and there are groups for 0 to 63; add `&& number < 64` to the condition, or ask for fewer tallies
+  question refused
+  [3]
+  $ query --where 'region >= 0' --count --by temperature
+  --by temperature: records are grouped by an unsigned number, of the types u8, u16, u32 and u64
+  question refused
+  [3]
+  $ query --where 'region >= 0' --by region
+  --by region: a group has tallies; ask for --count, --sum, --least or --greatest
+  question refused
+  [3]
+  $ query --where 'region == 3' --count --sum price --by number --explain
+  where: u8@2 == 3
+  records: 16 of 32 bytes in each block, from byte 0 on
+  tally: count, sum(price)
+  by: number u16 @0, of the values 0 to 63, a program for 64 values
+  program: 116 of 4096 slots, for 16 records of each block; it counts what matches and has a greater value
+  program: 244 of 4096 slots, for 16 records of each block; it emits at most 0 bytes for a block (--emit 0)
+  source: 4 blocks of zone 0
+  room: 0 blocks of zone 1, if all records match
+  runs: 2 runs, each over at most 4 blocks
 
 Other forms: JSON, and bytes.
 
@@ -344,8 +411,8 @@ What isn't understood is refused, with the column and what is possible there.
   --select: the layout has no field `regon`; it has number, region, price, temperature, word
   question refused
   [3]
-  $ query --where 'region == 3' --sum temperature
-  --sum temperature: only unsigned numbers are tallied, of the types u8, u16, u32 and u64
+  $ query --where 'region == 3' --sum word
+  --sum word: only numbers are tallied, of the types u8 to u64 and i8 to i64
   question refused
   [3]
   $ query --where 'region == 3' --count --select number

@@ -188,9 +188,8 @@ class Question:
 
     def asked(self, matching: List[bytes]) -> Tuple[List[str], bytes]:
         """The words, and what is printed of the records that match."""
-        unsigned = [field for field in self.fields if not field.signed]
         if self.rng.random() < 0.3:
-            return self.tallies(matching, unsigned)
+            return self.tallies(matching)
         fields = self.rng.sample(self.fields, self.rng.randint(1, len(self.fields)))
         words = ["--select", ",".join(field.name for field in fields)]
         form = self.rng.choice(["--csv", "--json", "--raw"])
@@ -209,17 +208,24 @@ class Question:
             return ("[" + ",\n".join(objects) + "]\n").encode()
         return "".join(",".join(map(str, row)) + "\n" for row in [names, *rows]).encode()
 
-    def tallies(self, matching: List[bytes], unsigned: List[Field]) -> Tuple[List[str], bytes]:
-        """A row of tallies."""
-        words, names, values = ["--count"], ["count"], [str(len(matching))]
-        for option in ["sum", "least", "greatest"]:
-            if not unsigned or self.rng.random() < 0.4:
-                continue
-            field = self.rng.choice(unsigned)
-            words += [f"--{option}", field.name]
-            names.append(f"{option}({field.name})")
-            values.append(tallied(option, [field.of(record) for record in matching]))
-        return words, f"{','.join(names)}\n{','.join(values)}\n".encode()
+    def tallies(self, matching: List[bytes]) -> Tuple[List[str], bytes]:
+        """A row of tallies, or a row for each value of a field."""
+        wanted = {option: self.rng.choice(self.fields) for option in ["sum", "least", "greatest"] if self.rng.random() < 0.6}
+        words = ["--count"] + [word for option, field in wanted.items() for word in (f"--{option}", field.name)]
+        names = ["count"] + [f"{option}({field.name})" for option, field in wanted.items()]
+
+        def row(records: List[bytes]) -> List[str]:
+            others = [tallied(option, [field.of(record) for record in records], field.signed) for option, field in wanted.items()]
+            return [str(len(records)), *others]
+
+        groups = self.rng.choice([None, *[field for field in self.fields if not field.signed]])
+        least = 256 if groups and groups.size == 1 else 128 // len(names)
+        if not groups or any(groups.of(record) >= least for record in matching):
+            return words, f"{','.join(names)}\n{','.join(row(matching))}\n".encode()
+        lines = [[groups.name, *names]]
+        for value in sorted({groups.of(record) for record in matching}):
+            lines.append([str(value), *row([record for record in matching if groups.of(record) == value])])
+        return [*words, "--by", groups.name], "".join(",".join(line) + "\n" for line in lines).encode()
 
     def case(self) -> Case:
         """The question."""
@@ -233,14 +239,15 @@ class Question:
         return Case(files, front + words, printed)
 
 
-def tallied(option: str, values: List[int]) -> str:
+def tallied(option: str, values: List[int], signed: bool) -> str:
     """What a tally of values comes to.
 
-    >>> tallied("sum", [2**64 - 1, 2]), tallied("least", [])
-    ('1', '')
+    >>> tallied("sum", [2**64 - 1, 2], False), tallied("sum", [2**63 - 1, 2], True), tallied("least", [], False)
+    ('1', '-9223372036854775807', '')
     """
     if option == "sum":
-        return str(sum(values) % 2**64)
+        total = sum(values) % 2**64
+        return str(total - 2**64 if signed and total >= 2**63 else total)
     if not values:
         return ""
     return str(min(values) if option == "least" else max(values))

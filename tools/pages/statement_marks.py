@@ -222,15 +222,16 @@ MARKS: Dict[str, str] = {
     "emit_append/specs/Unpacking.antt": (
         "P: Reading zeros_at frame_length frame_record after_frame frames_at output_block_at output_blocks_at unpacked"
     ),
-    "record_questions/src/question.rt": "P: Sign ByteOrder Field Comparison Operand Predicate ByteRange Tally Question",
+    "record_questions/src/question.rt": "P: Sign ByteOrder Field Comparison Operand Predicate ByteRange Tally Grouping Question",
     "record_questions/specs/Question.antt": (
         "P: number_of number_in signed_by value_of operand_value compares matches records_in matching cut cuts answer"
     ),
     "record_questions/specs/Tallies.antt": (
-        "P: tally_step tallied_from tallied_of tally_from; -: IsLeast IsGreatest WordsAreTallied TalliesAreTotals"
+        "P: word_in rank_of value_at rank_in tally_step tallied_from groups words_of group_of tallied_in tallied_of is_of records_of "
+        "tally_from word_at; -: IsLeast IsGreatest total_of WordsAreTallied TalliesAreTotals"
     ),
     "record_questions/specs/Asked.antt": (
-        "P: IsField IsNumber IsOperand IsPredicate IsRange IsTallied IsTally AreTallies IsQuestion"
+        "P: IsField IsNumber IsOperand IsPredicate IsRange IsTally AreTallies IsGrouping IsQuestion"
     ),
     "question_runs/specs/Loaded.antt": "-: IsProgramOf HasQuestion NoEventLoads load_by QuestionWasLoaded CompiledQuestionsLoad",
     "question_compiler/specs/Compiled.antt": "-: IsCompiled",

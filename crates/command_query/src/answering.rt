@@ -84,7 +84,7 @@ impl Plan {
 
     /// How many runs there are.
     pub(crate) fn runs(&self) -> u64 {
-        u64::from(self.times()).saturating_mul(self.compiled.parts.len() as u64)
+        u64::from(self.times()).saturating_mul(self.compiled.programs())
     }
 }
 
@@ -101,10 +101,10 @@ pub(crate) fn answer<'a, O: Write>(
     out: &mut O,
 ) -> Result<(), Failure<'a>> {
     open(alloc, asked, plan)?;
-    load_all(alloc, asked, plan)?;
     let mut printing = Printed::new(alloc, form);
     match &plan.compiled.wanted {
         Wanted::Rows(columns) => {
+            load_all(alloc, asked, plan)?;
             answer_rows(alloc, asked, plan, columns.as_slice(), &mut printing, out)?;
         }
         Wanted::Tallies(tallies) => {
@@ -126,10 +126,20 @@ fn open<'a>(alloc: Global, asked: &mut AskedDevice, plan: &Plan) -> Result<(), F
 /// Loads the programs, each into a slot.
 fn load_all<'a>(alloc: Global, asked: &mut AskedDevice, plan: &Plan) -> Result<(), Failure<'a>> {
     for (index, part) in plan.compiled.parts.iter().enumerate() {
-        let limit = part.sizes.limit();
-        asked.load(alloc, slot_of(index), limit, part.program.as_slice())?;
+        load(alloc, asked, index, part)?;
     }
     Ok(())
+}
+
+/// Loads a program into the slot of this index.
+pub(crate) fn load<'a>(
+    alloc: Global,
+    asked: &mut AskedDevice,
+    index: usize,
+    part: &Part,
+) -> Result<(), Failure<'a>> {
+    let limit = part.sizes.limit();
+    asked.load(alloc, slot_of(index), limit, part.program.as_slice())
 }
 
 /// The slot of a program, of which there are no more than slots.

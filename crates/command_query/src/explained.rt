@@ -1,7 +1,7 @@
 //! How a question is understood, and what asking it takes.
 
 use crate::answering::Plan;
-use crate::columns::{Column, push_type};
+use crate::columns::{Column, Kind, push_type};
 use crate::compiled::CompiledQuestion;
 use crate::layout::RecordLayout;
 use crate::wanted::Wanted;
@@ -29,6 +29,7 @@ pub(crate) fn explained(
         "records: {records} of {size} bytes in each block, from byte {first} on"
     )?;
     push_wanted(&compiled.wanted, &mut text)?;
+    push_groups(compiled, &mut text)?;
     for part in &compiled.parts {
         let slots = part.slots;
         let limit = part.sizes.limit();
@@ -60,6 +61,32 @@ fn push_wanted(wanted: &Wanted, text: &mut String) -> Result<(), AllocError> {
         }
     }
     text.push_str("\n")
+}
+
+/// Adds by what records are grouped.
+fn push_groups(compiled: &CompiledQuestion, text: &mut String) -> Result<(), AllocError> {
+    let Some(groups) = &compiled.groups else {
+        return Ok(());
+    };
+    let name = groups.name.as_str();
+    let offset = groups.field.offset;
+    let last = groups.count.saturating_sub(1);
+    let each = Counted(u64::from(groups.of_program), "value");
+    write!(text, "by: {name} ")?;
+    push_type(Kind::Number(groups.field), text)?;
+    writeln!(
+        text,
+        " @{offset}, of the values 0 to {last}, a program for {each}"
+    )?;
+    for part in &compiled.beyond {
+        let slots = part.slots;
+        let records = Counted(u64::from(part.records), "record");
+        writeln!(
+            text,
+            "program: {slots} of {MOST_SLOTS} slots, for {records} of each block; it counts what matches and has a greater value"
+        )?;
+    }
+    Ok(())
 }
 
 /// Adds a column, as a layout has it.

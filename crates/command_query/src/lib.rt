@@ -9,6 +9,7 @@ mod commands;
 mod compiled;
 mod destination;
 mod explained;
+mod grouped;
 mod layout;
 mod layout_fault;
 mod parts;

@@ -21,6 +21,8 @@ pub(crate) struct Part {
     pub(crate) sizes: RunSizes,
     /// How many records of each block it looks at.
     pub(crate) records: u16,
+    /// The first group that it tallies.
+    pub(crate) first_group: u16,
 }
 
 /// The programs of a question: as few as hold it. The question is left with the records of the last.
@@ -98,6 +100,10 @@ fn part_of<'a>(
         slots: verified.program().slots(),
         sizes,
         records: question.count,
+        first_group: match question.by {
+            Some(by) => by.first,
+            None => 0,
+        },
     }))
 }
 

@@ -11,6 +11,7 @@ use crate::commands::AskedDevice;
 use crate::compiled::compile_question;
 use crate::destination::{INTO, destination_for};
 use crate::explained::{explained, push_work};
+use crate::grouped::{BY, Groups, groups_asked};
 use crate::layout::{RecordLayout, load};
 use crate::refused::refused;
 use crate::rows::Form;
@@ -64,7 +65,10 @@ A condition compares a field by ==, !=, <, <=, > or >= with a number, with `arg`
 than ||, ! takes what is next to it, and parentheses come before all. Numbers are decimal, or hexadecimal after 0x. A field that has no \
 name is written as u32@8; `bytes@8 == \"ab\"` and `bytes@8 == 0x6162` compare bytes.
 
---count, --sum, --least and --greatest tally the records that match; a sum is modulo 2^64. Of no record there is no least and no greatest.
+--count, --sum, --least and --greatest tally the records that match; a sum is modulo 2^64. Of no record there is no least and no greatest. \
+With --by each value of an unsigned field that records which match have is a row, in order. Of a field of one byte these are all its values, \
+and of a wider one those from 0 on that a program has room for: 128 for the count alone, and 64, 42 or 32 with one, two or three other \
+tallies. Where a record that matches has a greater value, nothing is printed, and a sentence says what to change.
 
 Rows come in the order of the blocks and of the records in them, below a line with the names, with commas; with --json as a list of \
 objects; with --raw as bytes, from the first field that is selected to the end of the last.
@@ -154,21 +158,28 @@ pub static WORDS: Words = Words {
             long: SUM,
             short: None,
             takes: Takes::Optional("FIELD"),
-            help: "Print the sum of an unsigned field",
+            help: "Print the sum of a field",
         },
         Argument {
             id: LEAST,
             long: LEAST,
             short: None,
             takes: Takes::Optional("FIELD"),
-            help: "Print the least value of an unsigned field",
+            help: "Print the least value of a field",
         },
         Argument {
             id: GREATEST,
             long: GREATEST,
             short: None,
             takes: Takes::Optional("FIELD"),
-            help: "Print the greatest value of an unsigned field",
+            help: "Print the greatest value of a field",
+        },
+        Argument {
+            id: BY,
+            long: BY,
+            short: None,
+            takes: Takes::Optional("FIELD"),
+            help: "Print a row of tallies for each value of an unsigned field",
         },
         Argument {
             id: CSV,
@@ -251,13 +262,15 @@ pub fn query<'a, F: Files, O: Write, E: Write>(
     let layout = load(alloc, required(matches, LAYOUT), files)?;
     let wanted = wanted_of(alloc, matches, &layout)?;
     check_form(alloc, form, &wanted)?;
+    let groups = groups_asked(alloc, matches, &layout, &wanted)?;
     if !required(matches, BLOCK_OPTION).is_empty() {
-        return tell_of_blocks(alloc, matches, &layout, wanted, files, out);
+        return tell_of_blocks(alloc, matches, &layout, wanted, groups, files, out);
     }
     let request = Request {
         form,
         layout,
         wanted,
+        groups,
     };
     if required(matches, INTO).is_empty() || is_only_told(matches) {
         return ask_copy(alloc, matches, request, files, out, err);
@@ -274,6 +287,8 @@ struct Request {
     layout: RecordLayout,
     /// What is printed.
     wanted: Wanted,
+    /// The groups of the records, if they are grouped.
+    groups: Option<Groups>,
 }
 
 /// Asks a question of a device in memory, and prints the answer; or prints how it is understood; or writes a program of it.
@@ -296,9 +311,10 @@ fn ask_copy<'a, F: Files, O: Write, E: Write>(
         form,
         layout,
         wanted,
+        groups,
     } = request;
     let device = device_file::load_copy(alloc, required(matches, IMAGE), files)?;
-    let plan = planned(alloc, matches, &layout, wanted, device.image())?;
+    let plan = planned(alloc, matches, &layout, wanted, groups, device.image())?;
     if is_explained(matches) {
         let mut text = explained(alloc, &layout, &plan.compiled)?;
         push_work(&plan, &mut text)?;
@@ -332,10 +348,11 @@ fn ask_image<'a, F: Files, O: Write, E: Write>(
         form,
         layout,
         wanted,
+        groups,
     } = request;
     let path = required(matches, IMAGE);
     let device = device_file::load_to_replace::<Intervals, F>(alloc, path, files)?;
-    let plan = planned(alloc, matches, &layout, wanted, device.image())?;
+    let plan = planned(alloc, matches, &layout, wanted, groups, device.image())?;
     image_file::check_place(path, files)?;
     let mut asked = AskedDevice::new(alloc, device)?;
     answer(alloc, &mut asked, &plan, form, out)?;
@@ -350,12 +367,13 @@ fn planned<'a>(
     matches: &ArgMatches<'a>,
     layout: &RecordLayout,
     wanted: Wanted,
+    groups: Option<Groups>,
     image: &Image,
 ) -> Result<Plan, Failure<'a>> {
     let argument = number(matches, ARGUMENT_OPTION)?;
     let source = source_asked(alloc, matches, image)?;
     let geometry = image.geometry();
-    let compiled = compile_question(alloc, matches, layout, wanted, geometry.block())?;
+    let compiled = compile_question(alloc, matches, layout, wanted, groups, geometry.block())?;
     let appends = compiled.question.emitted.is_some();
     let destination = destination_for(alloc, matches, image, source.zone, appends)?;
     let parts = compiled.parts.as_slice();
@@ -400,7 +418,7 @@ fn check_form<'a>(alloc: Global, form: Form, wanted: &Wanted) -> Result<(), Fail
 fn note_runs<E: Write>(plan: &Plan, err: &mut E) {
     let runs = plan.runs();
     if runs > 1 {
-        let programs = Counted(plan.compiled.parts.len() as u64, "program");
+        let programs = Counted(plan.compiled.programs(), "program");
         let _told = writeln!(err, "note: {programs}, {runs} runs");
     }
 }

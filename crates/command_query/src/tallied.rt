@@ -1,16 +1,22 @@
 //! Tallies of all records that match.
 
-use crate::answering::{Plan, run, slot_of};
+ghost use Rattle.std.specs.Prelude.{◌≡◌};
+ghost use Rattle.record_questions.specs.Question.{signed_by};
+ghost use Rattle.record_questions.specs.Tallies.{value_at};
+
+use crate::answering::{Plan, load, run, slot_of};
 use crate::cells::Cell;
 use crate::commands::AskedDevice;
+use crate::grouped::{Groups, check_beyond};
+use crate::parts::Part;
 use crate::rows::Printed;
 use crate::wanted::NamedTally;
 use byteorder::{ByteOrder, LittleEndian};
 use command_files::Failure;
-use record_questions::Tally;
+use record_questions::{Sign, Tally};
 use std::alloc::{AllocError, Global};
 
-/// Asks for tallies, and adds the row that has them.
+/// Asks for tallies, and adds the row that has them, or a row for each group of records.
 pub(crate) fn answer_tallies<'a>(
     alloc: Global,
     asked: &mut AskedDevice,
@@ -18,35 +24,107 @@ pub(crate) fn answer_tallies<'a>(
     tallies: &[NamedTally],
     printing: &mut Printed,
 ) -> Result<(), Failure<'a>> {
-    let mut totals = vec![in alloc; 0u64; plan.compiled.question.tallies.len()]?;
-    for time in 0..plan.times() {
-        let stretch = plan.stretch(time);
-        for index in 0..plan.compiled.parts.len() {
-            run(alloc, asked, plan, index, stretch)?;
-            let length = asked.result(alloc, slot_of(index))?;
-            let words = asked.data(length);
-            add_words(
-                plan.compiled.question.tallies.as_slice(),
-                words,
-                totals.as_mut_slice(),
-            );
-        }
-    }
-    push_tallies(tallies, totals.as_slice(), printing)?;
+    let asked_for = plan.compiled.question.tallies.as_slice();
+    let Some(groups) = &plan.compiled.groups else {
+        let mut totals = vec![in alloc; 0u64; asked_for.len()]?;
+        add_all(
+            alloc,
+            asked,
+            plan,
+            plan.compiled.parts.as_slice(),
+            asked_for,
+            totals.as_mut_slice(),
+        )?;
+        push_names(0, tallies, printing)?;
+        printing.begin_row()?;
+        push_tallies(0, tallies, totals.as_slice(), printing)?;
+        return Ok(());
+    };
+    let mut lacking = vec![in alloc; 0u64; 1]?;
+    add_all(
+        alloc,
+        asked,
+        plan,
+        plan.compiled.beyond.as_slice(),
+        &[Tally::Count],
+        lacking.as_mut_slice(),
+    )?;
+    check_beyond(alloc, groups, word_of(lacking.as_slice(), 0))?;
+    let mut totals = vec![in alloc; 0u64; asked_for
+        .len()
+        .saturating_mul(usize::from(groups.count))]?;
+    add_all(
+        alloc,
+        asked,
+        plan,
+        plan.compiled.parts.as_slice(),
+        asked_for,
+        totals.as_mut_slice(),
+    )?;
+    push_groups(
+        groups,
+        tallies,
+        asked_for.len(),
+        totals.as_slice(),
+        printing,
+    )?;
     Ok(())
 }
 
-/// Adds the names of tallies and the row that has them, by their words: that of the number of the records, and then those of the others
-/// in order.
+/// Runs programs over all blocks, and adds the words of their tallies, group by group.
+fn add_all<'a>(
+    alloc: Global,
+    asked: &mut AskedDevice,
+    plan: &Plan,
+    parts: &[Part],
+    tallies: &[Tally],
+    totals: &mut [u64],
+) -> Result<(), Failure<'a>> {
+    for part in parts {
+        load(alloc, asked, 0, part)?;
+        let before = tallies.len().saturating_mul(usize::from(part.first_group));
+        for time in 0..plan.times() {
+            run(alloc, asked, plan, 0, plan.stretch(time))?;
+            let length = asked.result(alloc, slot_of(0))?;
+            if let Some(words) = totals.get_mut(before..) {
+                add_words(tallies, asked.data(length), words);
+            }
+        }
+    }
+    Ok(())
+}
+
+/// Adds the names of the columns, and a row of each group that has records.
+fn push_groups(
+    groups: &Groups,
+    tallies: &[NamedTally],
+    words: usize,
+    totals: &[u64],
+    printing: &mut Printed,
+) -> Result<(), AllocError> {
+    let name = groups.name.as_str();
+    printing.push_name(0, name)?;
+    push_names(1, tallies, printing)?;
+    for (value, totals) in totals.chunks(words.max(1)).enumerate() {
+        if word_of(totals, 0) > 0 {
+            printing.begin_row()?;
+            printing.push_cell(0, name, Cell::Number(value as i128))?;
+            push_tallies(1, tallies, totals, printing)?;
+        }
+    }
+    Ok(())
+}
+
+/// Adds the cells of tallies after so many others and the end of their row, by their words: that of the number of the records, and then
+/// those of the others in order.
 fn push_tallies(
+    before: usize,
     tallies: &[NamedTally],
     totals: &[u64],
     printing: &mut Printed,
 ) -> Result<(), AllocError> {
-    push_names(tallies, printing)?;
     let count = word_of(totals, 0);
     let mut others: usize = 0;
-    printing.begin_row()?;
     for (index, named) in tallies.iter().enumerate() {
         let word = if named.tally == Tally::Count {
             count
@@ -55,7 +133,7 @@ fn push_tallies(
             word_of(totals, others)
         };
         printing.push_cell(
-            index,
+            before.saturating_add(index),
             named.name.as_str(),
             tallied(named.tally, word, count),
         )?;
@@ -63,10 +141,14 @@ fn push_tallies(
     printing.end_row(&[])
 }
 
-/// Adds the names of tallies.
-fn push_names(tallies: &[NamedTally], printing: &mut Printed) -> Result<(), AllocError> {
+/// Adds the names of tallies after so many others.
+fn push_names(
+    before: usize,
+    tallies: &[NamedTally],
+    printing: &mut Printed,
+) -> Result<(), AllocError> {
     for (index, named) in tallies.iter().enumerate() {
-        printing.push_name(index, named.name.as_str())?;
+        printing.push_name(before.saturating_add(index), named.name.as_str())?;
     }
     printing.end_names()
 }
@@ -79,10 +161,10 @@ fn word_of(words: &[u64], index: usize) -> u64 {
     }
 }
 
-/// Adds the words that a run left to those of the runs before.
+/// Adds the words that a run left to those of the runs before: those of the tallies of each group, group by group.
 fn add_words(tallies: &[Tally], scratch: &[u8], totals: &mut [u64]) {
     for (index, total) in totals.iter_mut().enumerate() {
-        if let Some(tally) = tallies.get(index) {
+        if let Some(tally) = tallies.get(index % tallies.len().max(1)) {
             *total = joined(*tally, *total, word_at(scratch, index));
         }
     }
@@ -107,9 +189,30 @@ fn word_at(scratch: &[u8], index: usize) -> u64 {
 /// What a tally's word says, of so many records.
 fn tallied<'r>(tally: Tally, word: u64, count: u64) -> Cell<'r> {
     match tally {
-        Tally::Count | Tally::Sum(_) => Cell::Number(i128::from(word)),
+        Tally::Count => Cell::Number(i128::from(word)),
+        Tally::Sum(field) => Cell::Number(total_of(field.sign, word)),
         Tally::Least(_) | Tally::Greatest(_) if count == 0 => Cell::Nothing,
-        Tally::Least(_) => Cell::Number(i128::from(u64::MAX - word)),
-        Tally::Greatest(_) => Cell::Number(i128::from(word)),
+        Tally::Least(field) => Cell::Number(value_at(field.sign, u64::MAX - word)),
+        Tally::Greatest(field) => Cell::Number(value_at(field.sign, word)),
+    }
+}
+
+/// The sum that a word has, of fields of this sign.
+fn total_of(sign: Sign, word: u64) -> i128
+    ensures { result ≡ signed_by sign 8 word }
+{
+    match sign {
+        Sign::Unsigned => i128::from(word),
+        Sign::Signed => i128::from(word.cast_signed()),
+    }
+}
+
+/// The value of this sign that has a rank.
+fn value_at(sign: Sign, rank: u64) -> i128
+    ensures { result ≡ value_at sign rank }
+{
+    match sign {
+        Sign::Unsigned => i128::from(rank),
+        Sign::Signed => i128::from(rank) - 0x8000_0000_0000_0000,
     }
 }

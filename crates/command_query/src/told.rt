@@ -6,6 +6,7 @@ ghost use Rattle.command_query.specs.Files.{program_file};
 
 use crate::compiled::{CompiledQuestion, compile_question};
 use crate::explained::explained;
+use crate::grouped::Groups;
 use crate::layout::RecordLayout;
 use crate::parts::Part;
 use crate::refused::refused;
@@ -45,6 +46,7 @@ pub(crate) fn tell_of_blocks<'a, F: Files, O: Write>(
     matches: &ArgMatches<'a>,
     layout: &RecordLayout,
     wanted: Wanted,
+    groups: Option<Groups>,
     files: &mut F,
     out: &mut O,
 ) -> Result<(), Failure<'a>>
@@ -55,7 +57,7 @@ pub(crate) fn tell_of_blocks<'a, F: Files, O: Write>(
     ensures contents { OnErr result (F.contents files.new ≡ F.contents files.old) }
 {
     let block = block_size(number(matches, BLOCK_OPTION)?)?;
-    let compiled = compile_question(alloc, matches, layout, wanted, block)?;
+    let compiled = compile_question(alloc, matches, layout, wanted, groups, block)?;
     if is_explained(matches) {
         let text = explained(alloc, layout, &compiled)?;
         return printed(out.write_all(text.as_bytes()));

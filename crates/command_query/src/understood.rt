@@ -47,6 +47,7 @@ pub(crate) fn question_asked<'a>(
         wanted: wanted_records,
         emitted: wanted.range(),
         tallies: wanted.tallies(alloc)?,
+        by: None,
     })
 }
 

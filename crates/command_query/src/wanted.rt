@@ -7,7 +7,7 @@ use crate::refused::refused;
 use clap::ArgMatches;
 use command_files::arguments::required;
 use command_files::{Failure, Shown};
-use record_questions::{ByteRange, Field, Sign, Tally};
+use record_questions::{ByteRange, Field, Tally};
 use std::alloc::{AllocError, Global};
 
 /// The option that names the columns.
@@ -141,7 +141,7 @@ fn all_columns<'a>(alloc: Global, layout: &RecordLayout) -> Result<Vec<Column>, 
 }
 
 /// The column with the name after an option.
-fn named_column<'a, 'l>(
+pub(crate) fn named_column<'a, 'l>(
     alloc: Global,
     option: &str,
     name: &str,
@@ -233,10 +233,10 @@ fn field_tallied<'a>(
     }
     let column = named_column(alloc, option, name, layout)?;
     match column.kind {
-        Kind::Number(field) if field.sign == Sign::Unsigned => Ok(Some(field)),
-        _ => {
+        Kind::Number(field) => Ok(Some(field)),
+        Kind::Text { .. } | Kind::Bytes { .. } => {
             let told = format!(in alloc;
-                "--{option} {name}: only unsigned numbers are tallied, of the types u8, u16, u32 and u64"
+                "--{option} {name}: only numbers are tallied, of the types u8 to u64 and i8 to i64"
             );
             Err(refused(told))
         }

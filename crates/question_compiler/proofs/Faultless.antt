@@ -28,8 +28,8 @@ no_fault q sizes program is within (fault.EmittedPassRecord end size) so =
     absurd (omega (arith, inside, a, b, c))
 no_fault q sizes program is within (fault.TooManyTallies count) so =
     let few = is.asked.few_tallies in
-    let a = so.0 in let b = so.1 in
-    absurd (omega (arith, few, a, b))
+    let many = so.1 in
+    absurd (omega (arith, few, many))
 no_fault q sizes program is within fault.NoQuestion so = absurd (so.3 is.asked)
 no_fault q sizes program is within (fault.OverLimit needed limit) so =
     let a = so.0 in let b = so.1 in let c = so.2 in

@@ -18,5 +18,6 @@ asked_of_largest block q less is =
       wanted = is.wanted;
       emitted = is.emitted;
       tallies = is.tallies;
+      by = is.by;
       few_tallies = is.few_tallies;
     }

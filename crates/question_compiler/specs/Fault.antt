@@ -10,6 +10,7 @@ use Rattle.question_compiler.specs.declared.fault.QuestionFault.{QuestionFault}
 use Rattle.question_compiler.specs.declared.fault.QuestionFault.TheVariants as fault
 use Rattle.record_questions.specs.Code.{counted, question_program}
 use Rattle.record_questions.specs.Asked.{IsQuestion}
+use Rattle.record_questions.specs.Tallies.{words_of}
 use Rattle.record_questions.specs.declared.question.ByteRange.{ByteRange}
 use Rattle.record_questions.specs.declared.question.Question.{Question}
 
@@ -35,9 +36,9 @@ emitted_end (Some range) = range.offset + range.size
 abbrev pub IsFaultOf : Question → Sizes → QuestionFault → Type 0
 IsFaultOf q sizes (fault.RecordsPassBlock end block) = (end ≡ records_end q) × (block ≡ sizes.block) × (block < end)
 IsFaultOf q sizes (fault.EmittedPassRecord end size) = (end ≡ emitted_end q.emitted) × (size ≡ q.size) × (size < end)
-IsFaultOf q sizes (fault.TooManyTallies count) = (count ≡ length q.tallies.items) × (SCRATCH_BYTES < 8 * count)
+IsFaultOf q sizes (fault.TooManyTallies count) = (count ≡ counted (words_of q)) × (SCRATCH_BYTES < 8 * words_of q)
 IsFaultOf q sizes fault.NoQuestion =
-    (records_end q ≤ sizes.block) × (emitted_end q.emitted ≤ q.size) × (8 * length q.tallies.items ≤ SCRATCH_BYTES)
+    (records_end q ≤ sizes.block) × (emitted_end q.emitted ≤ q.size) × (8 * words_of q ≤ SCRATCH_BYTES)
     × (¬ IsQuestion sizes.block q)
 IsFaultOf q sizes (fault.OverLimit needed limit) = (needed ≡ most_emitted q) × (limit ≡ sizes.limit) × (limit < needed)
 IsFaultOf q sizes (fault.TooLong count) = (count ≡ counted (length (question_program q))) × (MOST_SLOTS < length (question_program q))

@@ -15,7 +15,7 @@ use crate::fits::all_fit;
 use instruction_set::{Instruction, Program};
 use interval_domain::Intervals;
 use program_interface::{FRAME_LENGTH_BYTES, RunSizes, SCRATCH_BYTES};
-use record_questions::{ByteRange, CodeFault, Question, instructions, is_question};
+use record_questions::{ByteRange, CodeFault, Question, instructions, is_question, words_of};
 use std::alloc::Global;
 use verifier::{Verified, VerifyFault, verify};
 
@@ -53,7 +53,7 @@ fn fitted(question: &Question, sizes: RunSizes) -> Result<(), QuestionFault>
     if end > size as u32 {
         return Err(QuestionFault::EmittedPassRecord { end, size });
     }
-    let count = question.tallies.len();
+    let count = words_of(question);
     if count > SCRATCH_BYTES / 8 {
         return Err(QuestionFault::TooManyTallies(count));
     }

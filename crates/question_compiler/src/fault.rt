@@ -24,13 +24,13 @@ pub enum QuestionFault {
         /// How many bytes a record has.
         size: u16,
     },
-    /// There are more tallies than scratch has words.
-    #[error("{0} tallies, and scratch has {most} words", most = SCRATCH_BYTES / 8)]
+    /// The tallies of all groups have more words than scratch: so many, as far as 64 bits count.
+    #[error("{0} words of tallies, and scratch has {most}", most = SCRATCH_BYTES / 8)]
     TooManyTallies(usize),
     /// Something else of it can't be asked: it has no records, or records of no bytes, a field ends after its record, a number has more
-    /// than 64 bits, fields of different signs are compared, bytes are compared with none, a signed field is tallied, or no byte of a
-    /// match is emitted.
-    #[error("no records or no bytes, or a field that passes its record, or can't be compared, tallied or emitted so")]
+    /// than 64 bits, fields of different signs are compared, bytes are compared with none, no byte of a
+    /// match is emitted, or the groups are none, by a signed field, or of values of 2^16 and more.
+    #[error("no records or no bytes, or a field that passes its record, or can't be compared, grouped by or emitted so")]
     NoQuestion,
     /// A block whose records all match takes more bytes than the limit.
     #[error("a block whose records all match takes {needed} bytes, and the limit is {limit}")]

@@ -4,7 +4,7 @@ use crate::compile;
 use instruction_set::{Instruction, Operation, Register, Relation, Size, Source, Width};
 use program_interface::{BlockSize, EMIT, RunSizes};
 use record_questions::{
-    ByteOrder, ByteRange, Comparison, Field, Operand, Predicate, Question, Sign, Tally,
+    ByteOrder, ByteRange, Comparison, Field, Grouping, Operand, Predicate, Question, Sign, Tally,
 };
 use std::alloc::Global;
 use std::process::Abort;
@@ -52,6 +52,7 @@ fn of_full_blocks(alloc: Global, wanted: Predicate) -> Question {
             size: 14,
         }),
         tallies: Vec::new(alloc),
+        by: None,
     }
 }
 
@@ -137,12 +138,61 @@ fn tallies_are_asked(rt: &impl Abort, alloc: Global) -> Result<(), Fail> {
     Ok(())
 }
 
+/// The load of a signed number of eight bytes, the highest first, takes two slots, and its rank three more.
+fn signed_tallies_are_asked(rt: &impl Abort, alloc: Global) -> Result<(), Fail> {
+    let wanted = compare(WORD, Comparison::NotEqual, Operand::Number(0));
+    let mut question = of_full_blocks(alloc, wanted);
+    question.emitted = None;
+    question.tallies.extend_from_slice(&[
+        Tally::Sum(WIDE),
+        Tally::Least(WIDE),
+        Tally::Greatest(WIDE),
+    ])?;
+    let slots = slots_of(alloc, &question)?;
+    assert_eq!(rt; slots.len(), 4 + 32 * (2 + 5 + 11 + 9));
+    Ok(())
+}
+
+/// Of 42 groups by a byte, each with three words, and of 2 groups by a word with the highest byte first, from 300 on.
+fn groups_are_asked(rt: &impl Abort, alloc: Global) -> Result<(), Fail> {
+    let wanted = compare(WORD, Comparison::NotEqual, Operand::Number(0));
+    let byte = Field {
+        size: Size::Byte,
+        ..WORD
+    };
+    let word = Field {
+        order: ByteOrder::Big,
+        ..WORD
+    };
+    let mut question = of_full_blocks(alloc, wanted);
+    question
+        .tallies
+        .extend_from_slice(&[Tally::Count, Tally::Sum(WIDE), Tally::Least(WORD)])?;
+    question.by = Some(Grouping {
+        field: byte,
+        first: 0,
+        values: 42,
+    });
+    let slots = slots_of(alloc, &question)?;
+    assert_eq!(rt; slots.len(), 4 + 32 * (2 + 6 + 3 + 5 + 7 + 4));
+    question.by = Some(Grouping {
+        field: word,
+        first: 300,
+        values: 2,
+    });
+    let slots = slots_of(alloc, &question)?;
+    assert_eq!(rt; slots.len(), 4 + 32 * (2 + 7 + 3 + 5 + 7 + 4));
+    Ok(())
+}
+
 #[test]
 fn questions_of_each_kind_are_accepted(rt: HostRuntime) -> Result<(), Fail> {
     let alloc = rt.alloc();
     comparisons_are_asked(&rt, alloc)?;
     predicates_are_asked(&rt, alloc)?;
-    tallies_are_asked(&rt, alloc)
+    tallies_are_asked(&rt, alloc)?;
+    signed_tallies_are_asked(&rt, alloc)?;
+    groups_are_asked(&rt, alloc)
 }
 
 fn push(code: &mut Vec<Option<Instruction>>, instruction: Instruction) -> Result<(), Fail> {

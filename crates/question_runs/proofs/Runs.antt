@@ -22,7 +22,7 @@ use Rattle.record_questions.specs.Asked.{IsQuestion, IsRange}
 use Rattle.record_questions.specs.Code.{question_program}
 use Rattle.record_questions.specs.Laws.{Answers, AnswersBlocks, argument_in}
 use Rattle.record_questions.specs.Question.{answer, cut, cuts, matches, matching, records_in}
-use Rattle.record_questions.specs.Tallies.{tallied_from, tallied_of}
+use Rattle.record_questions.specs.Tallies.{group_of, tallied_in, tallied_of}
 use Rattle.record_questions.specs.declared.question.ByteRange.{ByteRange}
 use Rattle.record_questions.specs.declared.question.Question.{Question}
 
@@ -52,7 +52,7 @@ argument_is task index small =
 
 tallied_both : (q : Question) (xs ys : List (List ℕ)) (scratch : List ℕ) → tallied_of q (xs ++ ys) scratch ≡ tallied_of q ys (tallied_of q xs scratch)
 tallied_both q [] ys scratch = refl
-tallied_both q (x ∷ xs) ys scratch = tallied_both q xs ys (tallied_from 0 q.tallies.items x scratch)
+tallied_both q (x ∷ xs) ys scratch = tallied_both q xs ys (tallied_in q.tallies.items (group_of q.by x) x scratch)
 
 -- what the block runs of some blocks come to, begun with this scratch, after the last of those before, if there are any
 pub record AnswerAll (q : Question) (argument : ℕ) (runs : List BlockRun) (blocks : List (List ℕ)) (scratch none : List ℕ) (before : Option BlockRun) : Type 0 where

@@ -1,5 +1,5 @@
 -- A question of which the laws speak, by computing the definitions.
-use Rattle.std.proofs.Common.{◌≡◌, ℕ, Bool, true, false, List, [], ◌∷◌, ◌++◌, replicate, Option, Some, Ok, refl, lit<, lit≤}
+use Rattle.std.proofs.Common.{◌≡◌, ℕ, Bool, true, false, List, [], ◌∷◌, ◌++◌, replicate, Option, Some, None, Ok, refl, lit<, lit≤}
 use Rattle.std.specs.Prelude.{◌&&◌, nat_lt}
 use Rattle.std.proofs.lemmas.Bool.{and_parts, ltb-true}
 use Rattle.std.specs.declared.alloc.Global.{Global}
@@ -140,6 +140,7 @@ module _ (ptr : Ptr) (alloc : Global) where
     wanted = Compare first_byte GreaterOrEqual Argument;
     emitted = Some (record { offset = 0; size = 2 });
     tallies = record { ptr = ptr; len = 1; cap = 1; alloc = alloc; items = Count ∷ []; ok = (refl, lit≤ tt); small = lit< tt };
+    by = None;
   }
 
   is_question : IsQuestion 512 q
@@ -150,6 +151,7 @@ module _ (ptr : Ptr) (alloc : Global) where
     wanted = (lit≤ tt, tt);
     emitted = (lit≤ tt, lit≤ tt);
     tallies = (tt, tt);
+    by = tt;
     few_tallies = lit≤ tt;
   }
 
@@ -217,6 +219,7 @@ module _ (ptr : Ptr) (alloc : Global) where
     compared = first_byte;
     asks_argument = refl;
     counts = refl;
+    one_group = refl;
     two_records = refl;
     two_blocks = refl;
     two_match = refl;

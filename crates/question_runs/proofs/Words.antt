@@ -1,5 +1,6 @@
 -- The words of what Result gives of a question.
 use Rattle.std.proofs.Common.{ℕ, zero, suc, ◌+◌, ◌*◌, ◌/◌, ◌%◌, ◌<◌, ◌≤◌, ◌≡◌, List, [], ◌∷◌, length, drop, get_or, sym, refl, ap, ◌∙◌, subst, arith, lit<}
+use Rattle.std.proofs.lemmas.Nat.{mul-le}
 use Rattle.std.specs.List.{AllByRecursion, flat_map}
 use Rattle.std.proofs.lemmas.List.{get_or-drop, get_or-replicate, length-replicate}
 use Rattle.common_definitions.proofs.Proved.{all_append, all_drop, all_same, all_take, bytes_from, bytes_to}
@@ -16,7 +17,7 @@ use Rattle.device_meaning.specs.Judging.{IsSoundJudge, interval_judge}
 use Rattle.question_runs.proofs.Runs.{IsWhole, kept_all}
 use Rattle.question_runs.specs.Words.{ComesTo, HasWords, ResultsHaveWords, matches_of}
 use Rattle.record_questions.specs.Question.{matches, matching, records_in}
-use Rattle.record_questions.specs.Tallies.{TalliesAreTotals, WordsAreTallied, tallied_of, tally_from}
+use Rattle.record_questions.specs.Tallies.{TalliesAreTotals, WordsAreTallied, groups, is_of, records_of, tallied_of, tally_from, word_at, words_of}
 use Rattle.record_questions.specs.declared.question.Tally.{Tally}
 use Rattle.record_questions.specs.declared.question.Tally.TheVariants.{Count, Sum, Least, Greatest}
 use Rattle.record_questions.specs.declared.question.Question.{Question}
@@ -66,10 +67,21 @@ no_scratch_is = record {
   are = by_place no_scratch (all_same FitsByte 1024 0 (lit< tt));
 }
 
-word_of_none : (i : ℕ) → 8 * i + 8 ≤ SCRATCH_BYTES → field no_scratch (8 * i) 8 ≡ 0
-word_of_none i room =
-    same_number 8 0 (drop (8 * i) no_scratch) [] (λ k below.
-    get_or-drop (8 * i) no_scratch k 0 ∙ get_or-replicate SCRATCH_BYTES (8 * i + k) 0 0 (omega (arith, room, below)))
+word_of_none : (at : ℕ) → at + 8 ≤ SCRATCH_BYTES → field no_scratch at 8 ≡ 0
+word_of_none at room =
+    same_number 8 0 (drop at no_scratch) [] (λ k below.
+    get_or-drop at no_scratch k 0 ∙ get_or-replicate SCRATCH_BYTES (at + k) 0 0 (omega (arith, room, below)))
+
+-- a word of a tally ends in scratch
+word_ends : (q : Question) (group i : ℕ) → group < groups q.by → i < length q.tallies.items → 8 * words_of q ≤ SCRATCH_BYTES
+    → word_at q group i + 8 ≤ SCRATCH_BYTES
+word_ends q group i low inside few =
+    let n = length q.tallies.items in
+    let most : (group + 1) * n ≤ groups q.by * n = mul-le (group + 1) n (groups q.by) n (omega (arith, low)) (omega arith) in
+    omega (arith, few, inside, most)
+
+records_are : (q : Question) (group : ℕ) (rs : List (List ℕ)) → AllByRecursion AreBytes rs → AllByRecursion AreBytes (records_of q.by group rs)
+records_are q group rs are = kept_all AreBytes (is_of q.by group) rs are
 
 -- ---- words
 
@@ -82,14 +94,15 @@ module _ (words : WordsAreTallied) (known : TalliesAreTotals) where
   comes_to (Greatest f) [] are = refl
   comes_to (Greatest f) (r ∷ rs) are = known.greatest f (r ∷ rs) are (omega arith)
 
-  has_words : (q : Question) (rs : List (List ℕ)) → AllByRecursion AreBytes rs → 8 * length q.tallies.items ≤ SCRATCH_BYTES
+  has_words : (q : Question) (rs : List (List ℕ)) → AllByRecursion AreBytes rs → 8 * words_of q ≤ SCRATCH_BYTES
       → HasWords q rs (tallied_of q rs no_scratch)
-  has_words q rs are few i inside =
+  has_words q rs are few group i low inside =
       let t = get_or q.tallies.items i Count in
-      let word : field (tallied_of q rs no_scratch) (8 * i) 8 ≡ tally_from t rs 0 =
-      words q rs no_scratch are no_scratch_is.are no_scratch_is.long few i inside
-      ∙ ap (tally_from t rs) (word_of_none i (omega (arith, few, inside))) in
-      record { tallied = word; comes_to = subst (ComesTo t rs) (sym word) (comes_to t rs are) }
+      let these = records_of q.by group rs in
+      let word : field (tallied_of q rs no_scratch) (word_at q group i) 8 ≡ tally_from t these 0 =
+      words q rs no_scratch are no_scratch_is.are no_scratch_is.long few group i low inside
+      ∙ ap (tally_from t these) (word_of_none (word_at q group i) (word_ends q group i low inside few)) in
+      record { tallied = word; comes_to = subst (ComesTo t these) (sym word) (comes_to t these (records_are q group rs are)) }
 
 pub results_have_words : WordsAreTallied → TalliesAreTotals → IsSoundJudge interval_judge → ResultsHaveWords
 results_have_words words known sound s command q reached is =

@@ -1,5 +1,5 @@
 -- That there is a question of which the laws speak.
-use Rattle.std.specs.Prelude.{ℕ, Bool, ◌≡◌, ◌+◌, List, [], ◌∷◌, length}
+use Rattle.std.specs.Prelude.{ℕ, Bool, ◌≡◌, ◌+◌, List, [], ◌∷◌, length, None}
 use Rattle.std.specs.declared.alloc.Global.{Global}
 use Rattle.std.specs.Ptr.{Ptr}
 use Rattle.common_definitions.specs.Bytes.{AreBytes, field}
@@ -40,6 +40,7 @@ pub record IsMet : Type 0 where
   pub compared : Field
   pub asks_argument : q.wanted ≡ Compare compared GreaterOrEqual Argument
   pub counts : q.tallies.items ≡ Count ∷ []
+  pub one_group : q.by ≡ None
   pub two_records : q.count ≡ 2
   pub two_blocks : length (source_blocks state.namespace command) ≡ 2
   pub two_match : answer_of q command.argument (source_blocks state.namespace command) ≡ (9 ∷ 0 ∷ []) ∷ (8 ∷ 0 ∷ []) ∷ []

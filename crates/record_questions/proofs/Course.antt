@@ -33,7 +33,8 @@ use Rattle.record_questions.specs.declared.question.Operand.{Operand}
 use Rattle.record_questions.specs.declared.question.Operand.TheVariants as operands
 use Rattle.record_questions.specs.Asked.{IsField, IsOperand}
 use Rattle.record_questions.specs.Code.{extension_code, extension_of, field_code, is_immediate, operand_code, slot_count, source_of, swap_code, swap_of}
-use Rattle.record_questions.specs.Question.{operand_value, value_of}
+use Rattle.record_questions.specs.Question.{operand_value}
+use Rattle.record_questions.specs.Tallies.{word_in}
 
 -- a block run that ends by EXIT, and what doesn't change in it
 pub record Course : Type 0 where
@@ -87,10 +88,6 @@ register_of Fifth = 5
 abbrev pub holding : Holder → ℕ → Temporaries → Temporaries
 holding Fourth x t = record t { r4 = x }
 holding Fifth x t = record t { r5 = x }
-
--- a field's value as a word
-abbrev pub word_in : Field → List ℕ → ℕ
-word_in f r = cast_unsigned w64 (value_of f r)
 
 module _ (w : Course) (scratch group : List ℕ) (frames : ℕ) where
   -- the block run comes to this slot, between pieces, with these registers

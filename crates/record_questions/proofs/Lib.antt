@@ -5,11 +5,15 @@ mod Reaching
 mod Standing
 mod Accesses
 mod Numbers
+mod Ranks
 mod Comparisons
 mod Course
 mod Tests
 mod Matches
+mod Groups
 mod Records
 mod Words
+mod GroupWords
+mod Totals
 mod Reach
 mod Counts

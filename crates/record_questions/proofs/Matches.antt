@@ -8,7 +8,7 @@ use Rattle.byteorder.specs.Endian.{little_bytes}
 use Rattle.common_definitions.specs.Bytes.{field, spliced}
 use Rattle.instruction_set.specs.Instruction.{immediate_word, target}
 use Rattle.instruction_set.specs.Program.{instruction_at}
-use Rattle.instruction_set.specs.declared.instruction.Instruction.TheVariants.{Load, Arithmetic, Branch, Call, Negate, StoreRegister}
+use Rattle.instruction_set.specs.declared.instruction.Instruction.TheVariants.{Load, LoadImmediate, Arithmetic, Branch, Call, Negate, StoreRegister}
 use Rattle.instruction_set.specs.declared.instruction.Source.TheVariants.{Immediate, Register}
 use Rattle.instruction_set.specs.declared.operation.Operation.TheVariants.{Add, Move}
 use Rattle.instruction_set.specs.declared.operation.Size.TheVariants.{DoubleWord}
@@ -16,37 +16,49 @@ use Rattle.instruction_set.specs.declared.operation.Relation.TheVariants as jump
 use Rattle.instruction_set.specs.declared.operation.Width.TheVariants.{Bits64}
 use Rattle.program_interface.specs.Area.{address_of}
 use Rattle.program_interface.specs.Frame.{frame}
-use Rattle.program_interface.specs.declared.area.Area.TheVariants.{Block}
+use Rattle.program_interface.specs.declared.area.Area.TheVariants.{Block, Scratch}
 use Rattle.program_interface.specs.declared.area.TheConstants.{SCRATCH_BYTES}
 use Rattle.program_interface.specs.declared.frame.TheConstants.{EMIT}
 use Rattle.program_meaning.specs.Effect.{bytes_at}
-use Rattle.program_meaning.specs.Memory.{Memory}
+use Rattle.program_meaning.specs.Memory.{Memory, loaded, stored}
 use Rattle.program_meaning.specs.Step.{slot_number}
 use Rattle.record_questions.proofs.Accesses.{address_is, emitted_is, scratch_loaded_is, scratch_stored_is}
-use Rattle.record_questions.proofs.Course.{At, ComesTo, Course, Fifth, Temporaries, between, field_comes, moved, word_in}
-use Rattle.record_questions.proofs.Numbers.{number_in_fits, record_bytes}
+use Rattle.record_questions.proofs.Course.{At, ComesTo, Course, Fifth, Temporaries, between, field_comes, moved}
+use Rattle.record_questions.proofs.Numbers.{record_bytes, value_is_number}
+use Rattle.record_questions.proofs.Ranks.{rank_in_fits, rank_word, rank_word_is}
 use Rattle.record_questions.proofs.Reaching.{goes}
 use Rattle.record_questions.proofs.Standing.{Stands, back_stands, front_stands, slot_count-append}
 use Rattle.record_questions.proofs.Tests.{Comes, at_slot, field_slots_are}
-use Rattle.record_questions.specs.declared.question.Sign.TheVariants.{Unsigned}
+use Rattle.record_questions.specs.declared.question.Sign.{Sign}
+use Rattle.record_questions.specs.declared.question.Sign.TheVariants.{Unsigned, Signed}
 use Rattle.record_questions.specs.declared.question.Field.{Field}
 use Rattle.record_questions.specs.declared.question.Tally.{Tally}
 use Rattle.record_questions.specs.declared.question.Tally.TheVariants.{Count, Sum, Least, Greatest}
-use Rattle.record_questions.specs.Asked.{AreTallies, IsTallied, IsTally}
-use Rattle.record_questions.specs.Code.{change_code, change_slots, emit_code, field_code, slot_count, taken_code, taken_slots, tallies_code, tallies_slots, tally_code}
-use Rattle.record_questions.specs.Question.{number_in}
-use Rattle.record_questions.specs.Tallies.{tallied_from, tally_step}
+use Rattle.record_questions.specs.Asked.{AreTallies, IsField, IsTally}
+use Rattle.record_questions.specs.Code.{change_code, change_slots, emit_code, field_code, rank_code, rank_slots, ranked_code, ranked_slots, slot_count, taken_code, taken_slots, tallies_code, tallies_slots, tally_code}
+use Rattle.record_questions.specs.Question.{value_of}
+use Rattle.record_questions.specs.Tallies.{rank_in, tallied_from, tally_step, word_in}
 
 -- ---- how many slots tallies take
+
+rank_slots_are : (sign : Sign) → slot_count (rank_code sign) ≡ rank_slots sign
+rank_slots_are Unsigned = refl
+rank_slots_are Signed = refl
+
+ranked_slots_are : (byte : ℕ) (f : Field) → slot_count (ranked_code byte f) ≡ ranked_slots f
+ranked_slots_are byte f =
+    let a = field_slots_are 5 byte f in
+    let b = rank_slots_are f.sign in
+    omega (arith, a, b, slot_count-append (field_code 5 byte f) (rank_code f.sign))
 
 taken_slots_are : (byte : ℕ) (y : Tally) → slot_count (taken_code byte y) ≡ taken_slots y
 taken_slots_are byte Count = refl
 taken_slots_are byte (Sum f) = field_slots_are 5 byte f
 taken_slots_are byte (Least f) =
-    let a = field_slots_are 5 byte f in
+    let a = ranked_slots_are byte f in
     let turned = Negate Bits64 5 ∷ Arithmetic Bits64 Add 5 (Immediate (neg_ℤ (pos 1))) ∷ [] in
-    omega (arith, a, slot_count-append (field_code 5 byte f) turned)
-taken_slots_are byte (Greatest f) = field_slots_are 5 byte f
+    omega (arith, a, slot_count-append (ranked_code byte f) turned)
+taken_slots_are byte (Greatest f) = ranked_slots_are byte f
 
 change_slots_are : (y : Tally) → slot_count (change_code y) ≡ change_slots y
 change_slots_are Count = refl
@@ -54,34 +66,45 @@ change_slots_are (Sum f) = refl
 change_slots_are (Least f) = refl
 change_slots_are (Greatest f) = refl
 
-tally_slots_are : (byte at : ℕ) (y : Tally) → slot_count (tally_code byte at y) ≡ taken_slots y + (change_slots y + 2)
-tally_slots_are byte at y =
+tally_slots_are : (base byte at : ℕ) (y : Tally) → slot_count (tally_code base byte at y) ≡ taken_slots y + (change_slots y + 2)
+tally_slots_are base byte at y =
     let a = taken_slots_are byte y in
     let b = change_slots_are y in
-    let store = StoreRegister DoubleWord 7 4 (pos at) ∷ [] in
+    let store = StoreRegister DoubleWord base 4 (pos at) ∷ [] in
     omega (
       arith,
       a,
       b,
-      slot_count-append (taken_code byte y) (Load DoubleWord 4 7 (pos at) ∷ (change_code y ++ store)),
+      slot_count-append (taken_code byte y) (Load DoubleWord 4 base (pos at) ∷ (change_code y ++ store)),
       slot_count-append (change_code y) store,
     )
 
-pub tallies_slots_are : (byte at : ℕ) (ys : List Tally) → slot_count (tallies_code byte at ys) ≡ tallies_slots ys
-tallies_slots_are byte at [] = refl
-tallies_slots_are byte at (y ∷ ys) =
-    let a = tally_slots_are byte at y in
-    let b = tallies_slots_are byte (at + 8) ys in
-    omega (arith, a, b, slot_count-append (tally_code byte at y) (tallies_code byte (at + 8) ys))
+pub tallies_slots_are : (base byte at : ℕ) (ys : List Tally) → slot_count (tallies_code base byte at ys) ≡ tallies_slots ys
+tallies_slots_are base byte at [] = refl
+tallies_slots_are base byte at (y ∷ ys) =
+    let a = tally_slots_are base byte at y in
+    let b = tallies_slots_are base byte (at + 8) ys in
+    omega (arith, a, b, slot_count-append (tally_code base byte at y) (tallies_code base byte (at + 8) ys))
 
 -- ---- what a tally takes of a record
 
 -- the number that a tally takes
 abbrev pub taken_of : Tally → List ℕ → ℕ → ℕ
 taken_of Count r before = before
-taken_of (Sum f) r before = number_in f r
-taken_of (Least f) r before = 2 ^ 64 - 1 - number_in f r
-taken_of (Greatest f) r before = number_in f r
+taken_of (Sum f) r before = word_in f r
+taken_of (Least f) r before = 2 ^ 64 - 1 - rank_in f r
+taken_of (Greatest f) r before = rank_in f r
+
+-- what R4 has then
+abbrev after_rank : Sign → ℕ → ℕ
+after_rank Unsigned before = before
+after_rank Signed before = 2 ^ 63
+
+abbrev after_taken : Tally → ℕ → ℕ
+after_taken Count before = before
+after_taken (Sum f) before = before
+after_taken (Least f) before = after_rank f.sign before
+after_taken (Greatest f) before = after_rank f.sign before
 
 -- the word after the record
 abbrev pub changed : Tally → ℕ → ℕ → ℕ
@@ -96,9 +119,6 @@ changed_is (Sum f) r word before = refl
 changed_is (Least f) r word before = refl
 changed_is (Greatest f) r word before = refl
 
-word_is_number : (f : Field) (r : List ℕ) → f.sign ≡ Unsigned → word_in f r ≡ number_in f r
-word_is_number f r e = rw e refl
-
 left : (x : ℕ) → x < 2 ^ 64 → ((2 ^ 64 - x) % 2 ^ 64 + immediate_word (neg_ℤ (pos 1))) % 2 ^ 64 ≡ 2 ^ 64 - 1 - x
 left x small = omega arith
 
@@ -108,58 +128,118 @@ max_first w x le = omega arith
 max_second : (w x : ℕ) → nat_le x w ≡ false → x ≡ max w x
 max_second w x e = grind (arith, nat_tests)
 
+-- the register with the address of a group's first word: R7, that of scratch, or R3
+pub data Base : Type 0 where
+  Seventh : Base
+  Third : Base
+
+abbrev pub base_register : Base → ℕ
+base_register Seventh = 7
+base_register Third = 3
+
+-- it has the address of a byte of scratch, where R3 is so
+abbrev pub IsBase : Base → ℕ → ℕ → Type 0
+IsBase Seventh start third = start ≡ 0
+IsBase Third start third = third ≡ address_of Scratch + start
+
 module _ (w : Course) (group : List ℕ) (frames : ℕ) where
+  -- the block run comes to this slot, between pieces, with that address
+  pub record Based (b : Base) (start : ℕ) (scratch : List ℕ) (slot : ℕ) : Type 0 where
+    pub t : Temporaries
+    pub reached : At w scratch group frames slot t
+    pub base : IsBase b start t.r3
+
   -- ---- words of scratch
 
-  word_loaded : (slot at : ℕ) (scratch : List ℕ) (t : Temporaries) → at + 8 ≤ SCRATCH_BYTES
-      → instruction_at w.program slot ≡ Some (Load DoubleWord 4 7 (pos at)) → At w scratch group frames slot t
-      → At w scratch group frames (slot + 1) (record t { r4 = field scratch at 8 })
-  word_loaded slot at scratch t inside stands r =
+  word_loaded : (b : Base) (start slot at place : ℕ) (scratch : List ℕ) (t : Temporaries) → IsBase b start t.r3 → place ≡ start + at
+      → place + 8 ≤ SCRATCH_BYTES → instruction_at w.program slot ≡ Some (Load DoubleWord 4 (base_register b) (pos at))
+      → At w scratch group frames slot t → At w scratch group frames (slot + 1) (record t { r4 = field scratch place 8 })
+  word_loaded Seventh start slot at place scratch t is e inside stands r =
+      let m = record w.memory { scratch = scratch } in
+      let same : at ≡ place = omega (arith, e, is) in
       subst (λ x. At w scratch group frames (slot + 1) (record t { r4 = x }))
-      (scratch_loaded_is (record w.memory { scratch = scratch }) w.short at inside)
+      (ap (λ (k : ℕ). loaded m ((address_of Scratch + k) % 2 ^ 64) 8) same ∙ scratch_loaded_is m w.short place inside)
       (goes w.program w.limit w.fuel w.start w.exits (between w slot t scratch group frames) (Load DoubleWord 4 7 (pos at)) stands refl r)
+  word_loaded Third start slot at place scratch t is e inside stands r =
+      let m = record w.memory { scratch = scratch } in
+      let same : t.r3 + at ≡ address_of Scratch + place = omega (arith, e, is) in
+      subst (λ x. At w scratch group frames (slot + 1) (record t { r4 = x }))
+      (ap (λ (k : ℕ). loaded m (k % 2 ^ 64) 8) same ∙ scratch_loaded_is m w.short place inside)
+      (goes w.program w.limit w.fuel w.start w.exits (between w slot t scratch group frames) (Load DoubleWord 4 3 (pos at)) stands refl r)
 
-  word_stored : (slot at : ℕ) (scratch : List ℕ) (t : Temporaries) → at + 8 ≤ SCRATCH_BYTES
-      → instruction_at w.program slot ≡ Some (StoreRegister DoubleWord 7 4 (pos at)) → At w scratch group frames slot t
-      → At w (spliced at (little_bytes 8 t.r4) scratch) group frames (slot + 1) t
-  word_stored slot at scratch t inside stands r =
-      let raw = goes w.program w.limit w.fuel w.start w.exits (between w slot t scratch group frames) (StoreRegister DoubleWord 7 4 (pos at)) stands refl r in
+  word_stored : (b : Base) (start slot at place : ℕ) (scratch : List ℕ) (t : Temporaries) → IsBase b start t.r3 → place ≡ start + at
+      → place + 8 ≤ SCRATCH_BYTES → instruction_at w.program slot ≡ Some (StoreRegister DoubleWord (base_register b) 4 (pos at))
+      → At w scratch group frames slot t → At w (spliced place (little_bytes 8 t.r4) scratch) group frames (slot + 1) t
+  word_stored Seventh start slot at place scratch t is e inside stands r =
+      let m = record w.memory { scratch = scratch } in
+      let same : at ≡ place = omega (arith, e, is) in
       subst (λ (n : Memory). ComesTo w (record (between w (slot + 1) t scratch group frames) { memory = n }))
-      (scratch_stored_is (record w.memory { scratch = scratch }) w.short at inside t.r4) raw
+      (ap (λ (k : ℕ). stored m ((address_of Scratch + k) % 2 ^ 64) DoubleWord t.r4) same ∙ scratch_stored_is m w.short place inside t.r4)
+      (goes w.program w.limit w.fuel w.start w.exits (between w slot t scratch group frames) (StoreRegister DoubleWord 7 4 (pos at)) stands refl r)
+  word_stored Third start slot at place scratch t is e inside stands r =
+      let m = record w.memory { scratch = scratch } in
+      let same : t.r3 + at ≡ address_of Scratch + place = omega (arith, e, is) in
+      subst (λ (n : Memory). ComesTo w (record (between w (slot + 1) t scratch group frames) { memory = n }))
+      (ap (λ (k : ℕ). stored m (k % 2 ^ 64) DoubleWord t.r4) same ∙ scratch_stored_is m w.short place inside t.r4)
+      (goes w.program w.limit w.fuel w.start w.exits (between w slot t scratch group frames) (StoreRegister DoubleWord 3 4 (pos at)) stands refl r)
 
   -- ---- one tally
 
   module _ (scratch : List ℕ) where
-    unsigned_comes : (f : Field) (slot byte size : ℕ) (t : Temporaries) → IsTallied size f → byte + size ≤ length w.memory.block
-        → Stands w.program slot (field_code 5 byte f) → At w scratch group frames slot t
-        → At w scratch group frames (slot + slot_count (field_code 5 byte f)) (record t { r5 = number_in f (take size (drop byte w.memory.block)) })
-    unsigned_comes f slot byte size t is fits stands r =
-        subst (λ x. At w scratch group frames (slot + slot_count (field_code 5 byte f)) (record t { r5 = x }))
-        (word_is_number f (take size (drop byte w.memory.block)) is.1)
-        (field_comes w scratch group frames Fifth f slot byte size t is.0 fits stands r)
+    rank_comes : (sign : Sign) (slot word : ℕ) (t : Temporaries) → Stands w.program slot (rank_code sign)
+        → At w scratch group frames slot (record t { r5 = word })
+        → At w scratch group frames (slot + slot_count (rank_code sign)) (record t { r4 = after_rank sign t.r4; r5 = rank_word sign word })
+    rank_comes Unsigned slot word t stands r = let e : slot ≡ slot + 0 = omega arith in moved w scratch group frames _ _ _ e r
+    rank_comes Signed slot word t stands r =
+        let a : At w scratch group frames (slot + 2) (record t { r4 = 2 ^ 63; r5 = word })
+        = goes w.program w.limit w.fuel w.start w.exits (between w slot (record t { r5 = word }) scratch group frames) (LoadImmediate 4 (2 ^ 63)) stands.0 refl r in
+        let b : At w scratch group frames (slot + 2 + 1) (record t { r4 = 2 ^ 63; r5 = (word + 2 ^ 63) % 2 ^ 64 })
+        = goes w.program w.limit w.fuel w.start w.exits (between w (slot + 2) (record t { r4 = 2 ^ 63; r5 = word }) scratch group frames)
+        (Arithmetic Bits64 Add 5 (Register 4)) stands.1.0 refl a in
+        let e : slot + 2 + 1 ≡ slot + 3 = omega arith in
+        moved w scratch group frames _ _ _ e b
+
+    ranked_comes : (f : Field) (slot byte size : ℕ) (t : Temporaries) → IsField size f → byte + size ≤ length w.memory.block
+        → Stands w.program slot (ranked_code byte f) → At w scratch group frames slot t
+        → At w scratch group frames (slot + slot_count (ranked_code byte f))
+        (record t { r4 = after_rank f.sign t.r4; r5 = rank_in f (take size (drop byte w.memory.block)) })
+    ranked_comes f slot byte size t is fits stands r =
+        let block = w.memory.block in
+        let bytes = take size (drop byte block) in
+        let load = field_code 5 byte f in
+        let rank = rank_code f.sign in
+        let a = field_comes w scratch group frames Fifth f slot byte size t is fits (front_stands w.program slot load rank stands) r in
+        let b = rank_comes f.sign (slot + slot_count load) (word_in f bytes) t (back_stands w.program slot load rank stands) a in
+        let e : slot + slot_count load + slot_count rank ≡ slot + slot_count (load ++ rank) = omega (arith, slot_count-append load rank) in
+        let same = rank_word_is f.sign (value_of f bytes) (value_is_number f bytes (record_bytes size byte block w.bytes)) in
+        subst (λ x. At w scratch group frames (slot + slot_count (load ++ rank)) (record t { r4 = after_rank f.sign t.r4; r5 = x })) same
+        (moved w scratch group frames _ _ _ e b)
 
     taken_comes : (y : Tally) (slot byte size : ℕ) (t : Temporaries) → IsTally size y → byte + size ≤ length w.memory.block
         → Stands w.program slot (taken_code byte y) → At w scratch group frames slot t
-        → At w scratch group frames (slot + slot_count (taken_code byte y)) (record t { r5 = taken_of y (take size (drop byte w.memory.block)) t.r5 })
+        → At w scratch group frames (slot + slot_count (taken_code byte y))
+        (record t { r4 = after_taken y t.r4; r5 = taken_of y (take size (drop byte w.memory.block)) t.r5 })
     taken_comes Count slot byte size t is fits stands r = let e : slot ≡ slot + 0 = omega arith in moved w scratch group frames _ _ t e r
-    taken_comes (Sum f) slot byte size t is fits stands r = unsigned_comes f slot byte size t is fits stands r
-    taken_comes (Greatest f) slot byte size t is fits stands r = unsigned_comes f slot byte size t is fits stands r
+    taken_comes (Sum f) slot byte size t is fits stands r = field_comes w scratch group frames Fifth f slot byte size t is fits stands r
+    taken_comes (Greatest f) slot byte size t is fits stands r = ranked_comes f slot byte size t is fits stands r
     taken_comes (Least f) slot byte size t is fits stands r =
         let block = w.memory.block in
-        let x = number_in f (take size (drop byte block)) in
-        let load = field_code 5 byte f in
+        let bytes = take size (drop byte block) in
+        let x = rank_in f bytes in
+        let load = ranked_code byte f in
         let turned = Negate Bits64 5 ∷ Arithmetic Bits64 Add 5 (Immediate (neg_ℤ (pos 1))) ∷ [] in
         let n = slot + slot_count load in
+        let u = record t { r4 = after_rank f.sign t.r4 } in
         let later = back_stands w.program slot load turned stands in
-        let a = unsigned_comes f slot byte size t is fits (front_stands w.program slot load turned stands) r in
-        let b : At w scratch group frames (n + 1) (record t { r5 = (2 ^ 64 - x) % 2 ^ 64 })
-        = goes w.program w.limit w.fuel w.start w.exits (between w n (record t { r5 = x }) scratch group frames) (Negate Bits64 5) later.0 refl a in
-        let c : At w scratch group frames (n + 1 + 1) (record t { r5 = ((2 ^ 64 - x) % 2 ^ 64 + immediate_word (neg_ℤ (pos 1))) % 2 ^ 64 })
-        = goes w.program w.limit w.fuel w.start w.exits (between w (n + 1) (record t { r5 = (2 ^ 64 - x) % 2 ^ 64 }) scratch group frames)
+        let a = ranked_comes f slot byte size t is fits (front_stands w.program slot load turned stands) r in
+        let b : At w scratch group frames (n + 1) (record u { r5 = (2 ^ 64 - x) % 2 ^ 64 })
+        = goes w.program w.limit w.fuel w.start w.exits (between w n (record u { r5 = x }) scratch group frames) (Negate Bits64 5) later.0 refl a in
+        let c : At w scratch group frames (n + 1 + 1) (record u { r5 = ((2 ^ 64 - x) % 2 ^ 64 + immediate_word (neg_ℤ (pos 1))) % 2 ^ 64 })
+        = goes w.program w.limit w.fuel w.start w.exits (between w (n + 1) (record u { r5 = (2 ^ 64 - x) % 2 ^ 64 }) scratch group frames)
         (Arithmetic Bits64 Add 5 (Immediate (neg_ℤ (pos 1)))) later.1.0 refl b in
         let e : n + 1 + 1 ≡ slot + slot_count (load ++ turned) = omega (arith, slot_count-append load turned) in
-        subst (λ v. At w scratch group frames (slot + slot_count (load ++ turned)) (record t { r5 = v })) (left x (number_in_fits f _ (record_bytes size byte block w.bytes)))
-        (moved w scratch group frames _ _ _ e c)
+        subst (λ v. At w scratch group frames (slot + slot_count (load ++ turned)) (record u { r5 = v }))
+        (left x (rank_in_fits f bytes (record_bytes size byte block w.bytes))) (moved w scratch group frames _ _ _ e c)
 
     greater : (b : Bool) (slot v x : ℕ) (t : Temporaries) → t.r4 ≡ v → t.r5 ≡ x → nat_le x v ≡ b
         → instruction_at w.program (slot + 1) ≡ Some (Arithmetic Bits64 Move 4 (Register 5))
@@ -193,46 +273,50 @@ module _ (w : Course) (group : List ℕ) (frames : ℕ) where
     change_comes (Least f) slot t stands r = greatest_comes slot t stands r
     change_comes (Greatest f) slot t stands r = greatest_comes slot t stands r
 
-    tally_comes : (y : Tally) (slot byte size at : ℕ) → IsTally size y → byte + size ≤ length w.memory.block → at + 8 ≤ SCRATCH_BYTES
-        → Stands w.program slot (tally_code byte at y) → Comes w scratch group frames slot
-        → Comes w (spliced at (little_bytes 8 (tally_step y (take size (drop byte w.memory.block)) (field scratch at 8))) scratch) group frames
-        (slot + slot_count (tally_code byte at y))
-    tally_comes y slot byte size at is fits room stands come =
+    tally_comes : (y : Tally) (b : Base) (start slot byte size at place : ℕ) → IsTally size y → byte + size ≤ length w.memory.block
+        → place ≡ start + at → place + 8 ≤ SCRATCH_BYTES
+        → Stands w.program slot (tally_code (base_register b) byte at y) → Based b start scratch slot
+        → Based b start (spliced place (little_bytes 8 (tally_step y (take size (drop byte w.memory.block)) (field scratch place 8))) scratch)
+        (slot + slot_count (tally_code (base_register b) byte at y))
+    tally_comes y b start slot byte size at place is fits e room stands come =
         let r = take size (drop byte w.memory.block) in
         let a = taken_code byte y in
-        let b = change_code y in
-        let store = StoreRegister DoubleWord 7 4 (pos at) ∷ [] in
-        let rest = Load DoubleWord 4 7 (pos at) ∷ (b ++ store) in
+        let c = change_code y in
+        let store = StoreRegister DoubleWord (base_register b) 4 (pos at) ∷ [] in
+        let rest = Load DoubleWord 4 (base_register b) (pos at) ∷ (c ++ store) in
         let later = back_stands w.program slot a rest stands in
         let n = slot + slot_count a in
         let x = taken_of y r come.t.r5 in
-        let word = field scratch at 8 in
+        let word = field scratch place 8 in
         let taken = taken_comes y slot byte size come.t is fits (front_stands w.program slot a rest stands) come.reached in
-        let loaded = word_loaded n at scratch (record come.t { r5 = x }) room later.0 taken in
+        let known = record come.t { r4 = after_taken y come.t.r4; r5 = x } in
+        let loaded = word_loaded b start n at place scratch known come.base e room later.0 taken in
         let t = record come.t { r4 = word; r5 = x } in
-        let done = change_comes y (n + 1) t (front_stands w.program (n + 1) b store later.1) loaded in
+        let done = change_comes y (n + 1) t (front_stands w.program (n + 1) c store later.1) loaded in
         let u = record t { r4 = changed y word x } in
-        let last = word_stored (n + 1 + slot_count b) at scratch u room (back_stands w.program (n + 1) b store later.1).0 done in
-        let e : n + 1 + slot_count b + 1 ≡ slot + slot_count (a ++ rest) = omega (arith, slot_count-append a rest, slot_count-append b store) in
+        let last = word_stored b start (n + 1 + slot_count c) at place scratch u come.base e room (back_stands w.program (n + 1) c store later.1).0 done in
+        let whole : n + 1 + slot_count c + 1 ≡ slot + slot_count (a ++ rest) = omega (arith, slot_count-append a rest, slot_count-append c store) in
         let same = changed_is y r word come.t.r5 in
-        let whole : Comes w (spliced at (little_bytes 8 (changed y word x)) scratch) group frames (slot + slot_count (a ++ rest))
-        = record { t = u; reached = moved w _ group frames _ _ u e last } in
-        subst (λ v. Comes w (spliced at (little_bytes 8 v) scratch) group frames (slot + slot_count (a ++ rest))) same whole
+        let all : Based b start (spliced place (little_bytes 8 (changed y word x)) scratch) (slot + slot_count (a ++ rest))
+        = record { t = u; reached = moved w _ group frames _ _ u whole last; base = come.base } in
+        subst (λ v. Based b start (spliced place (little_bytes 8 v) scratch) (slot + slot_count (a ++ rest))) same all
 
-  pub tallies_come : (ys : List Tally) (slot byte size at : ℕ) (scratch : List ℕ) → AreTallies size ys → byte + size ≤ length w.memory.block
-      → at + 8 * length ys ≤ SCRATCH_BYTES
-      → Stands w.program slot (tallies_code byte at ys) → Comes w scratch group frames slot
-      → Comes w (tallied_from at ys (take size (drop byte w.memory.block)) scratch) group frames (slot + slot_count (tallies_code byte at ys))
-  tallies_come [] slot byte size at scratch is fits room stands come =
-      let e : slot ≡ slot + 0 = omega arith in
-      at_slot w scratch group frames _ _ e come
-  tallies_come (y ∷ ys) slot byte size at scratch is fits room stands come =
-      let a = tally_code byte at y in
-      let b = tallies_code byte (at + 8) ys in
-      let this = tally_comes scratch y slot byte size at is.0 fits (omega arith) (front_stands w.program slot a b stands) come in
-      let rest = tallies_come ys (slot + slot_count a) byte size (at + 8) _ is.1 fits (omega arith) (back_stands w.program slot a b stands) this in
-      let e : slot + slot_count a + slot_count b ≡ slot + slot_count (a ++ b) = omega (arith, slot_count-append a b) in
-      at_slot w _ group frames _ _ e rest
+  pub tallies_come : (ys : List Tally) (b : Base) (start slot byte size at place : ℕ) (scratch : List ℕ) → AreTallies size ys
+      → byte + size ≤ length w.memory.block → place ≡ start + at → place + 8 * length ys ≤ SCRATCH_BYTES
+      → Stands w.program slot (tallies_code (base_register b) byte at ys) → Based b start scratch slot
+      → Comes w (tallied_from place ys (take size (drop byte w.memory.block)) scratch) group frames
+      (slot + slot_count (tallies_code (base_register b) byte at ys))
+  tallies_come [] b start slot byte size at place scratch is fits e room stands come =
+      let f : slot ≡ slot + 0 = omega arith in
+      at_slot w scratch group frames _ _ f (record { t = come.t; reached = come.reached })
+  tallies_come (y ∷ ys) b start slot byte size at place scratch is fits e room stands come =
+      let a = tally_code (base_register b) byte at y in
+      let c = tallies_code (base_register b) byte (at + 8) ys in
+      let this = tally_comes scratch y b start slot byte size at place is.0 fits e (omega arith) (front_stands w.program slot a c stands) come in
+      let rest = tallies_come ys b start (slot + slot_count a) byte size (at + 8) (place + 8) _ is.1 fits (omega (arith, e)) (omega arith)
+      (back_stands w.program slot a c stands) this in
+      let f : slot + slot_count a + slot_count c ≡ slot + slot_count (a ++ c) = omega (arith, slot_count-append a c) in
+      at_slot w _ group frames _ _ f rest
 
 module _ (w : Course) (scratch group : List ℕ) (frames : ℕ) where
   -- ---- emits

@@ -1,11 +1,12 @@
 -- What a record has is within reach of an instruction's offset.
-use Rattle.std.proofs.Common.{ℕ, ◌+◌, ◌-◌, ◌*◌, ◌<◌, ◌≤◌, ◌^◌, ◌≡◌, List, [], ◌∷◌, refl, arith, lit≤}
+use Rattle.std.proofs.Common.{ℕ, ◌+◌, ◌-◌, ◌*◌, ◌<◌, ◌≤◌, ◌^◌, ◌≡◌, List, [], ◌∷◌, length, Option, Some, None, refl, arith, lit≤}
 use Rattle.std.proofs.lemmas.Nat.{mul-le}
 use Rattle.byteorder.specs.Endian.{little_number}
 use Rattle.common_definitions.specs.Bytes.{AreBytes}
 use Rattle.instruction_set.specs.Instruction.{size_of}
 use Rattle.instruction_set.specs.declared.operation.Size.{Size}
 use Rattle.instruction_set.specs.declared.operation.Size.TheVariants.{Byte, HalfWord, Word, DoubleWord}
+use Rattle.program_interface.specs.declared.area.TheConstants.{SCRATCH_BYTES}
 use Rattle.program_interface.specs.declared.block_size.TheConstants.{LARGEST_BLOCK}
 use Rattle.record_questions.proofs.Numbers.{number_fits, signed_is_number}
 use Rattle.record_questions.specs.declared.question.Sign.{Sign}
@@ -18,9 +19,11 @@ use Rattle.record_questions.specs.declared.question.Predicate.{Predicate}
 use Rattle.record_questions.specs.declared.question.Predicate.TheVariants.{Compare, Bytes, And', Or', Not'}
 use Rattle.record_questions.specs.declared.question.Tally.{Tally}
 use Rattle.record_questions.specs.declared.question.Tally.TheVariants.{Count, Sum, Least, Greatest}
+use Rattle.record_questions.specs.declared.question.Grouping.{Grouping}
 use Rattle.record_questions.specs.declared.question.Question.{Question}
-use Rattle.record_questions.specs.Asked.{AreTallies, IsField, IsOperand, IsPredicate, IsQuestion, IsTallied, IsTally}
+use Rattle.record_questions.specs.Asked.{AreTallies, IsField, IsGrouping, IsOperand, IsPredicate, IsQuestion, IsTally}
 use Rattle.record_questions.specs.Code.{chunk_operand}
+use Rattle.record_questions.specs.Tallies.{groups}
 
 some_bytes : (s : Size) → 1 ≤ size_of s
 some_bytes Byte = lit≤ tt
@@ -52,14 +55,11 @@ predicate_in (And' x p y q) size n le is = (predicate_in p size n le is.0, predi
 predicate_in (Or' x p y q) size n le is = (predicate_in p size n le is.0, predicate_in q size n le is.1)
 predicate_in (Not' x p) size n le is = predicate_in p size n le is
 
-tallied_in : (f : Field) (size n : ℕ) → size ≤ n → IsTallied size f → IsTallied n f
-tallied_in f size n le is = (field_in f size n le is.0, is.1)
-
 tally_in : (t : Tally) (size n : ℕ) → size ≤ n → IsTally size t → IsTally n t
 tally_in Count size n le is = is
-tally_in (Sum f) size n le is = tallied_in f size n le is
-tally_in (Least f) size n le is = tallied_in f size n le is
-tally_in (Greatest f) size n le is = tallied_in f size n le is
+tally_in (Sum f) size n le is = field_in f size n le is
+tally_in (Least f) size n le is = field_in f size n le is
+tally_in (Greatest f) size n le is = field_in f size n le is
 
 tallies_in : (ts : List Tally) (size n : ℕ) → size ≤ n → AreTallies size ts → AreTallies n ts
 tallies_in [] size n le is = is
@@ -78,6 +78,23 @@ predicate_near p byte size inside is = predicate_in p size (2 ^ 15 - byte) (left
 
 pub tallies_near : (ts : List Tally) (byte size : ℕ) → byte + size ≤ LARGEST_BLOCK → AreTallies size ts → AreTallies (2 ^ 15 - byte) ts
 tallies_near ts byte size inside is = tallies_in ts size (2 ^ 15 - byte) (left byte size inside) is
+
+grouping_in : (by : Option Grouping) (size n : ℕ) → size ≤ n → IsGrouping size by → IsGrouping n by
+grouping_in None size n le is = is
+grouping_in (Some by) size n le is = (field_in by.field size n le is.0, is.1, is.2, is.3)
+
+pub grouping_near : (by : Option Grouping) (byte size : ℕ) → byte + size ≤ LARGEST_BLOCK → IsGrouping size by → IsGrouping (2 ^ 15 - byte) by
+grouping_near by byte size inside is = grouping_in by size (2 ^ 15 - byte) (left byte size inside) is
+
+-- a group's words are no more than all
+few_of : (by : Option Grouping) (size n : ℕ) → IsGrouping size by → 8 * (groups by * n) ≤ SCRATCH_BYTES → 8 * n ≤ SCRATCH_BYTES
+few_of None size n is few = omega (arith, few)
+few_of (Some by) size n is few =
+    let most : 1 * n ≤ by.values * n = mul-le 1 n by.values n is.2 (omega arith) in
+    omega (arith, few, most)
+
+pub tallies_few : (q : Question) (block : ℕ) → IsQuestion block q → 8 * length q.tallies.items ≤ SCRATCH_BYTES
+tallies_few q block is = few_of q.by q.size (length q.tallies.items) is.by is.few_tallies
 
 pub record_inside : (q : Question) (i : ℕ) → IsQuestion LARGEST_BLOCK q → i < q.count → q.first + i * q.size + q.size ≤ LARGEST_BLOCK
 record_inside q i is less =

@@ -22,7 +22,8 @@ use Rattle.program_meaning.specs.TrapFree.{IsExit}
 use Rattle.record_questions.proofs.Accesses.{context_loaded_is, cut_is}
 use Rattle.record_questions.proofs.Comparisons.{skipped, skips}
 use Rattle.record_questions.proofs.Course.{Course, Temporaries, between}
-use Rattle.record_questions.proofs.Matches.{emit_comes, tallies_come, tallies_slots_are}
+use Rattle.record_questions.proofs.Groups.{grouped_comes, grouped_slots_are}
+use Rattle.record_questions.proofs.Matches.{emit_comes}
 use Rattle.record_questions.proofs.Numbers.{word_field_fits}
 use Rattle.record_questions.proofs.Reaching.{Reaches, begins, ends, goes}
 use Rattle.record_questions.proofs.Standing.{Stands, back_stands, front_stands, program_stands, slot_count-append}
@@ -30,10 +31,10 @@ use Rattle.record_questions.proofs.Tests.{Comes, at_slot, test_comes}
 use Rattle.record_questions.specs.declared.question.ByteRange.{ByteRange}
 use Rattle.record_questions.specs.declared.question.Question.{Question}
 use Rattle.record_questions.specs.Asked.{IsQuestion, IsRange}
-use Rattle.record_questions.specs.Code.{match_code, match_slots, question_code, question_program, range_code, range_slots, record_code, records_code, slot_count, tallies_code, test_code}
+use Rattle.record_questions.specs.Code.{match_code, match_slots, question_code, question_program, range_code, range_slots, record_code, records_code, slot_count, grouped_code, test_code}
 use Rattle.record_questions.specs.Laws.{Answers, AnswersBlocks, argument_in}
 use Rattle.record_questions.specs.Question.{answer, cut, cuts, matches, matching}
-use Rattle.record_questions.specs.Tallies.{tallied_from, tallied_of}
+use Rattle.record_questions.specs.Tallies.{group_of, tallied_in, tallied_of}
 
 -- those of one record that match: the record or none
 abbrev one : Bool → List ℕ → List (List ℕ)
@@ -54,7 +55,7 @@ cuts_none (Some range) = refl
 pub tallied_both : (q : Question) (xs ys : List (List ℕ)) (scratch : List ℕ)
     → tallied_of q (xs ++ ys) scratch ≡ tallied_of q ys (tallied_of q xs scratch)
 tallied_both q [] ys scratch = refl
-tallied_both q (x ∷ xs) ys scratch = tallied_both q xs ys (tallied_from 0 q.tallies.items x scratch)
+tallied_both q (x ∷ xs) ys scratch = tallied_both q xs ys (tallied_in q.tallies.items (group_of q.by x) x scratch)
 
 range_slots_are : (byte : ℕ) (range : Option ByteRange) → slot_count (range_code byte range) ≡ range_slots range
 range_slots_are byte None = refl
@@ -62,9 +63,9 @@ range_slots_are byte (Some range) = refl
 
 pub match_slots_are : (q : Question) (byte : ℕ) → slot_count (match_code q byte) ≡ match_slots q
 match_slots_are q byte =
-    let a = tallies_slots_are byte 0 q.tallies.items in
+    let a = grouped_slots_are byte q.by q.tallies.items in
     let b = range_slots_are byte q.emitted in
-    omega (arith, a, b, slot_count-append (tallies_code byte 0 q.tallies.items) (range_code byte q.emitted))
+    omega (arith, a, b, slot_count-append (grouped_code byte q.by q.tallies.items) (range_code byte q.emitted))
 
 module _ (w : Course) (q : Question) (is : IsQuestion (length w.memory.block) q) where
   -- the block run comes to this slot, and these records that match are answered, after what was there before
@@ -109,7 +110,7 @@ module _ (w : Course) (q : Question) (is : IsQuestion (length w.memory.block) q)
       let act = match_code q byte in
       let test = test_code byte true q.wanted (match_slots q) in
       let r = take q.size (drop byte w.memory.block) in
-      let ts = tallies_code byte 0 q.tallies.items in
+      let ts = grouped_code byte q.by q.tallies.items in
       let cs = range_code byte q.emitted in
       let tested = test_comes w scratch group frames q.wanted true slot byte q.size (match_slots q) is.wanted fits (front_stands w.program slot test act stands) come in
       let acts = back_stands w.program slot test act stands in
@@ -119,9 +120,9 @@ module _ (w : Course) (q : Question) (is : IsQuestion (length w.memory.block) q)
       at_slot w _ _ _ _ _ e
       (matched (matches w.argument q.wanted r) (slot + slot_count test) (match_slots q) scratch group frames r tested
       (λ there. at_slot w _ _ _ _ _ f
-      (range_comes q.emitted (slot + slot_count test + slot_count ts) byte (tallied_from 0 q.tallies.items r scratch) group frames is.emitted fits
+      (range_comes q.emitted (slot + slot_count test + slot_count ts) byte (tallied_in q.tallies.items (group_of q.by r) r scratch) group frames is.emitted fits
       (back_stands w.program (slot + slot_count test) ts cs acts)
-      (tallies_come w group frames q.tallies.items (slot + slot_count test) byte q.size 0 scratch is.tallies fits (omega (arith, is.few_tallies))
+      (grouped_comes w group frames byte q.size q.tallies.items scratch is.tallies fits q.by (slot + slot_count test) is.by is.few_tallies
       (front_stands w.program (slot + slot_count test) ts cs acts) there))))
 
   records_come : (n slot byte : ℕ) (scratch group : List ℕ) (frames : ℕ) → byte + n * q.size ≤ length w.memory.block

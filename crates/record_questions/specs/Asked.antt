@@ -13,7 +13,9 @@ use Rattle.record_questions.specs.declared.question.Predicate.TheVariants.{Compa
 use Rattle.record_questions.specs.declared.question.ByteRange.{ByteRange}
 use Rattle.record_questions.specs.declared.question.Tally.{Tally}
 use Rattle.record_questions.specs.declared.question.Tally.TheVariants.{Count, Sum, Least, Greatest}
+use Rattle.record_questions.specs.declared.question.Grouping.{Grouping}
 use Rattle.record_questions.specs.declared.question.Question.{Question}
+use Rattle.record_questions.specs.Tallies.{words_of}
 
 -- a field lies in a record of so many bytes
 abbrev pub IsField : ℕ → Field → Type 0
@@ -43,22 +45,25 @@ abbrev pub IsRange : ℕ → Option ByteRange → Type 0
 IsRange bytes None = ⊤
 IsRange bytes (Some range) = (1 ≤ range.size) × (range.offset + range.size ≤ bytes)
 
--- a field that can be tallied has no sign
-abbrev pub IsTallied : ℕ → Field → Type 0
-IsTallied bytes f = IsField bytes f × (f.sign ≡ Unsigned)
-
+-- a tally of a record of so many bytes
 abbrev pub IsTally : ℕ → Tally → Type 0
 IsTally bytes Count = ⊤
-IsTally bytes (Sum f) = IsTallied bytes f
-IsTally bytes (Least f) = IsTallied bytes f
-IsTally bytes (Greatest f) = IsTallied bytes f
+IsTally bytes (Sum f) = IsField bytes f
+IsTally bytes (Least f) = IsField bytes f
+IsTally bytes (Greatest f) = IsField bytes f
 
 abbrev pub AreTallies : ℕ → List Tally → Type 0
 AreTallies bytes [] = ⊤
 AreTallies bytes (t ∷ ts) = IsTally bytes t × AreTallies bytes ts
 
+-- groups by an unsigned field of a record of so many bytes: one at least, of values below 2^16
+abbrev pub IsGrouping : ℕ → Option Grouping → Type 0
+IsGrouping bytes None = ⊤
+IsGrouping bytes (Some by) =
+    IsField bytes by.field × (by.field.sign ≡ Unsigned) × (1 ≤ by.values) × (by.first + by.values ≤ 2 ^ 16)
+
 -- a question that can be asked of blocks of so many bytes: it has records, of at least a byte, they lie in a block, what it looks at
--- lies in a record, and each tally has a word of scratch
+-- lies in a record, and each tally of each group has a word of scratch
 pub record IsQuestion (block : ℕ) (q : Question) : Type 0 where
   pub some_bytes : 1 ≤ q.size
   pub some_records : 1 ≤ q.count
@@ -66,4 +71,5 @@ pub record IsQuestion (block : ℕ) (q : Question) : Type 0 where
   pub wanted : IsPredicate q.size q.wanted
   pub emitted : IsRange q.size q.emitted
   pub tallies : AreTallies q.size q.tallies.items
-  pub few_tallies : 8 * length q.tallies.items ≤ SCRATCH_BYTES
+  pub by : IsGrouping q.size q.by
+  pub few_tallies : 8 * words_of q ≤ SCRATCH_BYTES

@@ -1,5 +1,5 @@
 -- The program of a question.
-use Rattle.std.specs.Prelude.{ℕ, ℤ, zero, suc, pos, neg_ℤ, Bool, true, false, not, ◌&&◌, ◌+◌, ◌/◌, ◌%◌, ◌-◌, ◌^◌, min, nat_le, replicate, drop, length, int_lt, int_le, if◌then◌else◌, List, [], ◌∷◌, ◌++◌, Option, Some, None}
+use Rattle.std.specs.Prelude.{ℕ, ℤ, zero, suc, pos, neg_ℤ, Bool, true, false, not, ◌&&◌, ◌+◌, ◌*◌, ◌/◌, ◌%◌, ◌-◌, ◌^◌, min, nat_le, replicate, drop, length, int_lt, int_le, if◌then◌else◌, List, [], ◌∷◌, ◌++◌, Option, Some, None}
 use Rattle.std.specs.Int.{w64, cast_unsigned}
 use Rattle.byteorder.specs.Endian.{little_number}
 use Rattle.instruction_set.specs.Instruction.{size_of}
@@ -8,7 +8,7 @@ use Rattle.instruction_set.specs.declared.instruction.Instruction.{Instruction}
 use Rattle.instruction_set.specs.declared.instruction.Instruction.TheVariants.{Load, LoadImmediate, Arithmetic, Branch, Call, Exit, Jump, MoveSigned, Negate, StoreRegister, SwapBytes}
 use Rattle.instruction_set.specs.declared.instruction.Source.{Source}
 use Rattle.instruction_set.specs.declared.instruction.Source.TheVariants.{Immediate, Register}
-use Rattle.instruction_set.specs.declared.operation.Operation.TheVariants.{Add, Move}
+use Rattle.instruction_set.specs.declared.operation.Operation.TheVariants.{Add, Subtract, Multiply, Move}
 use Rattle.instruction_set.specs.declared.operation.Relation.{Relation}
 use Rattle.instruction_set.specs.declared.operation.Relation.TheVariants as jumps
 use Rattle.instruction_set.specs.declared.operation.SignExtension.{SignExtension}
@@ -34,6 +34,7 @@ use Rattle.record_questions.specs.declared.question.Predicate.TheVariants.{Compa
 use Rattle.record_questions.specs.declared.question.ByteRange.{ByteRange}
 use Rattle.record_questions.specs.declared.question.Tally.{Tally}
 use Rattle.record_questions.specs.declared.question.Tally.TheVariants.{Count, Sum, Least, Greatest}
+use Rattle.record_questions.specs.declared.question.Grouping.{Grouping}
 use Rattle.record_questions.specs.declared.question.Question.{Question}
 
 -- a number, as far as 64 bits count
@@ -212,12 +213,28 @@ test_code byte goes_on (Not' x p) skip = test_code byte (not goes_on) p skip
 
 -- ---- what is done of a record that matches: R7 has the address of scratch
 
+-- adds 2^63 to a signed value in R5: words compare as the values do then
+abbrev pub rank_code : Sign → List Instruction
+rank_code Unsigned = []
+rank_code Signed = LoadImmediate 4 (2 ^ 63) ∷ Arithmetic Bits64 Add 5 (Register 4) ∷ []
+
+-- the rank of a field's value, in R5
+abbrev pub ranked_code : (byte : ℕ) → Field → List Instruction
+ranked_code byte f = field_code 5 byte f ++ rank_code f.sign
+
+abbrev pub rank_slots : Sign → ℕ
+rank_slots Unsigned = 0
+rank_slots Signed = 3
+
+abbrev pub ranked_slots : Field → ℕ
+ranked_slots f = field_slots f + rank_slots f.sign
+
 -- the number that a tally takes of a record, in R5; the least is the greatest of what is left to 2^64 - 1
 abbrev pub taken_code : (byte : ℕ) → Tally → List Instruction
 taken_code byte Count = []
 taken_code byte (Sum f) = field_code 5 byte f
-taken_code byte (Least f) = field_code 5 byte f ++ Negate Bits64 5 ∷ Arithmetic Bits64 Add 5 (Immediate (neg_ℤ (pos 1))) ∷ []
-taken_code byte (Greatest f) = field_code 5 byte f
+taken_code byte (Least f) = ranked_code byte f ++ Negate Bits64 5 ∷ Arithmetic Bits64 Add 5 (Immediate (neg_ℤ (pos 1))) ∷ []
+taken_code byte (Greatest f) = ranked_code byte f
 
 -- changes the word in R4
 abbrev pub change_code : Tally → List Instruction
@@ -226,20 +243,20 @@ change_code (Sum f) = Arithmetic Bits64 Add 4 (Register 5) ∷ []
 change_code (Least f) = Branch Bits64 jumps.GreaterOrEqual 4 (Register 5) (pos 1) ∷ Arithmetic Bits64 Move 4 (Register 5) ∷ []
 change_code (Greatest f) = Branch Bits64 jumps.GreaterOrEqual 4 (Register 5) (pos 1) ∷ Arithmetic Bits64 Move 4 (Register 5) ∷ []
 
--- tallies the record at a byte of the block in the word at an offset of scratch
-abbrev pub tally_code : (byte at : ℕ) → Tally → List Instruction
-tally_code byte at t =
-    taken_code byte t ++ Load DoubleWord 4 7 (pos at) ∷ (change_code t ++ StoreRegister DoubleWord 7 4 (pos at) ∷ [])
+-- tallies the record at a byte of the block in the word at an offset from the address in a register
+abbrev pub tally_code : (base byte at : ℕ) → Tally → List Instruction
+tally_code base byte at t =
+    taken_code byte t ++ Load DoubleWord 4 base (pos at) ∷ (change_code t ++ StoreRegister DoubleWord base 4 (pos at) ∷ [])
 
-abbrev pub tallies_code : (byte at : ℕ) → List Tally → List Instruction
-tallies_code byte at [] = []
-tallies_code byte at (t ∷ ts) = tally_code byte at t ++ tallies_code byte (at + 8) ts
+abbrev pub tallies_code : (base byte at : ℕ) → List Tally → List Instruction
+tallies_code base byte at [] = []
+tallies_code base byte at (t ∷ ts) = tally_code base byte at t ++ tallies_code base byte (at + 8) ts
 
 abbrev pub taken_slots : Tally → ℕ
 taken_slots Count = 0
 taken_slots (Sum f) = field_slots f
-taken_slots (Least f) = field_slots f + 2
-taken_slots (Greatest f) = field_slots f
+taken_slots (Least f) = ranked_slots f + 2
+taken_slots (Greatest f) = ranked_slots f
 
 abbrev pub change_slots : Tally → ℕ
 change_slots Count = 1
@@ -250,6 +267,28 @@ change_slots (Greatest f) = 2
 abbrev pub tallies_slots : List Tally → ℕ
 tallies_slots [] = 0
 tallies_slots (t ∷ ts) = taken_slots t + (change_slots t + 2) + tallies_slots ts
+
+-- Where the value in R5 is that of a group, R3 takes the address of the group's words: each group has so many. Else it jumps over the
+-- code of the tallies, which takes so many slots.
+abbrev pub base_code : Grouping → (words slots : ℕ) → List Instruction
+base_code by words slots =
+    Arithmetic Bits64 Subtract 5 (Immediate (pos by.first))
+    ∷ Branch Bits64 jumps.GreaterOrEqual 5 (Immediate (pos by.values)) (pos (3 + slots))
+    ∷ Arithmetic Bits64 Multiply 5 (Immediate (pos (8 * words)))
+    ∷ Arithmetic Bits64 Move 3 (Register 7) ∷ Arithmetic Bits64 Add 3 (Register 5) ∷ []
+
+abbrev pub group_slots : Grouping → ℕ
+group_slots by = field_slots by.field + 5
+
+-- tallies the record at a byte of the block in the words of its group
+abbrev pub grouped_code : (byte : ℕ) → Option Grouping → List Tally → List Instruction
+grouped_code byte None ts = tallies_code 7 byte 0 ts
+grouped_code byte (Some by) ts =
+    field_code 5 byte by.field ++ (base_code by (length ts) (tallies_slots ts) ++ tallies_code 3 byte 0 ts)
+
+abbrev pub grouped_slots : Option Grouping → List Tally → ℕ
+grouped_slots None ts = tallies_slots ts
+grouped_slots (Some by) ts = group_slots by + tallies_slots ts
 
 -- emits so many bytes from one of the block on
 abbrev pub emit_code : ℕ → ℕ → List Instruction
@@ -267,10 +306,10 @@ range_slots None = 0
 range_slots (Some range) = 4
 
 abbrev pub match_code : Question → (byte : ℕ) → List Instruction
-match_code q byte = tallies_code byte 0 q.tallies.items ++ range_code byte q.emitted
+match_code q byte = grouped_code byte q.by q.tallies.items ++ range_code byte q.emitted
 
 abbrev pub match_slots : Question → ℕ
-match_slots q = tallies_slots q.tallies.items + range_slots q.emitted
+match_slots q = grouped_slots q.by q.tallies.items + range_slots q.emitted
 
 -- ---- records
 

@@ -3,9 +3,11 @@
 ghost use Rattle.std.specs.Prelude.{◌≡◌, ◌≤◌, ◌+◌, IsTrue, ◌↔◌, length};
 ghost use Rattle.common_definitions.specs.Bytes.{AreBytes};
 ghost use Rattle.instruction_set.specs.Instruction.{size_of};
-ghost use Rattle.record_questions.specs.Asked.{AreTallies, IsField, IsNumber, IsOperand, IsPredicate, IsQuestion, IsRange, IsTallied, IsTally};
+ghost use Rattle.record_questions.specs.Asked.{AreTallies, IsField, IsGrouping, IsNumber, IsOperand, IsPredicate, IsQuestion, IsRange, IsTally};
+ghost use Rattle.record_questions.specs.Code.{counted};
+ghost use Rattle.record_questions.specs.Tallies.{groups, words_of};
 
-use crate::question::{ByteRange, Field, Operand, Predicate, Question, Sign, Tally};
+use crate::question::{ByteRange, Field, Grouping, Operand, Predicate, Question, Sign, Tally};
 use instruction_set::Size;
 use program_interface::SCRATCH_BYTES;
 
@@ -89,22 +91,13 @@ fn is_range(bytes: u16, range: Option<ByteRange>) -> bool
     }
 }
 
-/// Can a field be tallied?
-fn is_tallied(bytes: u16, field: Field) -> bool
-    ensures { IsTrue result ↔ IsTallied bytes field }
-{
-    is_field(bytes, field) && field.sign == Sign::Unsigned
-}
-
 /// Can this be tallied of a record of so many bytes?
 fn is_tally(bytes: u16, tally: Tally) -> bool
     ensures { IsTrue result ↔ IsTally bytes tally }
 {
     match tally {
         Tally::Count => true,
-        Tally::Sum(field) | Tally::Least(field) | Tally::Greatest(field) => is_tallied(
-            bytes, field,
-        ),
+        Tally::Sum(field) | Tally::Least(field) | Tally::Greatest(field) => is_field(bytes, field),
     }
 }
 
@@ -118,6 +111,38 @@ fn are_tallies(bytes: u16, tallies: &[Tally]) -> bool
     }
 }
 
+/// Are these groups by a field of a record of so many bytes?
+fn is_grouping(bytes: u16, by: Option<Grouping>) -> bool
+    ensures { IsTrue result ↔ IsGrouping bytes by }
+{
+    match by {
+        None => true,
+        Some(by) => {
+            is_field(bytes, by.field)
+                && by.field.sign == Sign::Unsigned
+                && 1 <= by.values
+                && u32::from(by.first) + u32::from(by.values) <= 0x1_0000
+        }
+    }
+}
+
+/// How many groups there are.
+fn groups(by: Option<Grouping>) -> u16
+    ensures { result ≡ groups by }
+{
+    match by {
+        None => 1,
+        Some(by) => by.values,
+    }
+}
+
+/// How many words all tallies of all groups have, as far as 64 bits count.
+pub fn words_of(question: &Question) -> usize
+    ensures { result ≡ counted (words_of question.now) }
+{
+    usize::from(groups(question.by)).saturating_mul(question.tallies.len())
+}
+
 /// Can a question be asked of blocks of so many bytes?
 pub fn is_question(block: u32, question: &Question) -> bool
     ensures { IsTrue result ↔ IsQuestion block question.now }
@@ -128,5 +153,6 @@ pub fn is_question(block: u32, question: &Question) -> bool
         && is_predicate(question.size, &question.wanted)
         && is_range(question.size, question.emitted)
         && are_tallies(question.size, &question.tallies)
-        && question.tallies.len() <= SCRATCH_BYTES / 8
+        && is_grouping(question.size, question.by)
+        && words_of(question) <= SCRATCH_BYTES / 8
 }

@@ -10,7 +10,7 @@ ghost use Rattle.record_questions.specs.Fault.{IsCodeFaultOf};
 use crate::emitting::{arithmetic, from_register, load, long, push};
 use crate::fault::CodeFault;
 use crate::question::{ByteRange, Question};
-use crate::tallying::{push_tallies, tallies_slots};
+use crate::tallying::{grouped_slots, push_grouped};
 use crate::testing::{push_test, test_slots};
 use instruction_set::{Instruction, Operation, Size, Source};
 use program_interface::{EMIT, MOST_SLOTS};
@@ -53,7 +53,7 @@ fn match_slots(question: &Question) -> u64
         None => 0,
         Some(_) => 4,
     };
-    tallies_slots(&question.tallies).saturating_add(emitted)
+    grouped_slots(question.by, &question.tallies).saturating_add(emitted)
 }
 
 /// How many slots are jumped over where a record doesn't match.
@@ -65,7 +65,7 @@ fn match_skip(question: &Question) -> u64
 }
 
 /// The code of the record at a byte of the block.
-#[tactic(auto, using(crate::proofs::Reach::predicate_near, crate::proofs::Reach::tallies_near))]
+#[tactic(auto, using(crate::proofs::Reach::predicate_near, crate::proofs::Reach::tallies_near, crate::proofs::Reach::grouping_near, crate::proofs::Reach::tallies_few))]
 fn push_record(
     code: &mut Vec<Instruction>,
     question: &Question,
@@ -77,7 +77,7 @@ fn push_record(
     ensures { OnOk result (code.new.items ≡ code.old.items ++ record_code question.now byte) }
 {
     push_test(code, byte, true, &question.wanted, match_skip(question))?;
-    push_tallies(code, byte, &question.tallies)?;
+    push_grouped(code, byte, question.by, &question.tallies)?;
     push_range(code, byte, question.emitted)
 }
 

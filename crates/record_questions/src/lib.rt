@@ -14,9 +14,9 @@ mod question;
 mod tallying;
 mod testing;
 
-pub use check::is_question;
+pub use check::{is_question, words_of};
 pub use code::instructions;
 pub use fault::CodeFault;
 pub use question::{
-    ByteOrder, ByteRange, Comparison, Field, Operand, Predicate, Question, Sign, Tally,
+    ByteOrder, ByteRange, Comparison, Field, Grouping, Operand, Predicate, Question, Sign, Tally,
 };

@@ -102,13 +102,26 @@ pub struct ByteRange {
 pub enum Tally {
     /// Their number, modulo 2^64.
     Count,
-    /// The sum of a field, modulo 2^64.
+    /// The sum of a field, modulo 2^64: in two's complement where the field is signed.
     Sum(Field),
-    /// The least value of a field. The word has it subtracted from 2^64 - 1. It is 0 for no record, and where the least is 2^64 - 1:
-    /// the count says which.
+    /// The least value of a field. The word is 2^64 - 1 minus the rank of the value: the value itself, or with 2^63 added where the field
+    /// is signed. It is 0 for no record, and where the least is the greatest that 64 bits hold: the count says which.
     Least(Field),
-    /// The greatest value of a field. It is 0 for no record, and where the greatest is 0: the count says which.
+    /// The greatest value of a field. The word is its rank. It is 0 for no record, and where the greatest is the least that 64 bits hold:
+    /// the count says which.
     Greatest(Field),
+}
+
+/// Groups of the records that match: by the value of a field, one for each of so many values from one on. A record whose value is none of
+/// them is in no group.
+#[derive(Clone, Copy, Debug, PartialEq, Eq)]
+pub struct Grouping {
+    /// The field, an unsigned one.
+    pub field: Field,
+    /// The value of the first group.
+    pub first: u16,
+    /// How many groups there are.
+    pub values: u16,
 }
 
 /// A question about the records of a block.
@@ -124,6 +137,8 @@ pub struct Question {
     pub wanted: Predicate,
     /// Which bytes of each match are emitted, if any.
     pub emitted: Option<ByteRange>,
-    /// What is tallied of the matches, from the first word of scratch on.
+    /// What is tallied of the matches of each group, group by group, from the first word of scratch on.
     pub tallies: Vec<Tally>,
+    /// By what the matches are grouped, if they are; else they are one group.
+    pub by: Option<Grouping>,
 }

@@ -1,4 +1,4 @@
-use Rattle.record_questions.proofs.Words.{tallies_are_totals}
+use Rattle.record_questions.proofs.Totals.{tallies_are_totals}
 use Rattle.record_questions.proofs.laws.tallies_are_totals.Goals as goal
 
 pub returns : goal.returns

@@ -7,4 +7,4 @@ use Rattle.record_questions.proofs.tallying.push_tallies.Given as goal
 abbrev pub invariant-loop-tally : goal.invariant-loop-tally
 invariant-loop-tally l =
     (l.at ≡ 8 * l.tally-index) × AreTallies (2 ^ 15 - l.byte) (drop l.tally-index l.tallies)
-    × (l.code.items ++ tallies_code l.byte l.at (drop l.tally-index l.tallies) ≡ l.initial.code.items ++ tallies_code l.byte 0 l.tallies)
+    × (l.code.items ++ tallies_code l.base l.byte l.at (drop l.tally-index l.tallies) ≡ l.initial.code.items ++ tallies_code l.base l.byte 0 l.tallies)
