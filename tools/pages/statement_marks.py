@@ -224,13 +224,13 @@ MARKS: Dict[str, str] = {
     ),
     "record_questions/src/question.rt": "P: Sign ByteOrder Field Comparison Operand Predicate ByteRange Tally Question",
     "record_questions/specs/Question.antt": (
-        "P: number_of number_in signed_by value_of operand_value compares matches records_in matching cut cuts answer"
+        "P: number_of number_in signed_by value_of operand_value compares matches records_in matching bytes_in cut cuts answer"
     ),
     "record_questions/specs/Tallies.antt": (
         "P: tally_step tallied_from tallied_of tally_from; -: IsLeast IsGreatest WordsAreTallied TalliesAreTotals"
     ),
     "record_questions/specs/Asked.antt": (
-        "P: IsField IsNumber IsOperand IsPredicate IsRange IsTallied IsTally AreTallies IsQuestion"
+        "P: IsField IsNumber IsOperand IsPredicate IsRange AreRanges emitted_bytes stacked_bytes IsTallied IsTally AreTallies IsQuestion"
     ),
     "question_runs/specs/Loaded.antt": "-: IsProgramOf HasQuestion NoEventLoads load_by QuestionWasLoaded CompiledQuestionsLoad",
     "question_compiler/specs/Compiled.antt": "-: IsCompiled",

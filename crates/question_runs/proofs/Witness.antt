@@ -138,7 +138,15 @@ module _ (ptr : Ptr) (alloc : Global) where
     size = 8;
     count = 2;
     wanted = Compare first_byte GreaterOrEqual Argument;
-    emitted = Some (record { offset = 0; size = 2 });
+    emitted = record {
+      ptr = ptr;
+      len = 1;
+      cap = 1;
+      alloc = alloc;
+      items = record { offset = 0; size = 2 } ∷ [];
+      ok = (refl, lit≤ tt);
+      small = lit< tt;
+    };
     tallies = record { ptr = ptr; len = 1; cap = 1; alloc = alloc; items = Count ∷ []; ok = (refl, lit≤ tt); small = lit< tt };
   }
 
@@ -148,7 +156,8 @@ module _ (ptr : Ptr) (alloc : Global) where
     some_records = lit≤ tt;
     inside = lit≤ tt;
     wanted = (lit≤ tt, tt);
-    emitted = (lit≤ tt, lit≤ tt);
+    emitted = ((lit≤ tt, lit≤ tt), tt);
+    stacked = lit≤ tt;
     tallies = (tt, tt);
     few_tallies = lit≤ tt;
   }

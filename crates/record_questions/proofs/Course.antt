@@ -48,13 +48,15 @@ pub record Course : Type 0 where
   pub bytes : AreBytes memory.block
   pub small : argument < 2 ^ 32
 
--- the registers that pieces change
+-- the registers that pieces change, and the bytes of the stack
 pub record Temporaries : Type 0 where
   pub r1 : ℕ
   pub r2 : ℕ
   pub r3 : ℕ
   pub r4 : ℕ
   pub r5 : ℕ
+  pub stack : List ℕ
+  pub whole : length stack ≡ STACK_BYTES
 
 -- the registers between pieces: R0 is 0, R6 has the block's address, R7 that of scratch, and R8 the argument
 abbrev pub registers_of : ℕ → Temporaries → List ℕ
@@ -66,7 +68,7 @@ abbrev pub between : Course → ℕ → Temporaries → List ℕ → List ℕ �
 between w slot t scratch group frames = record {
   slot = slot;
   registers = registers_of w.argument t;
-  memory = record w.memory { scratch = scratch };
+  memory = record w.memory { scratch = scratch; stack = t.stack };
   group = group;
   frames = frames;
 }
@@ -100,14 +102,14 @@ module _ (w : Course) (scratch group : List ℕ) (frames : ℕ) where
   pub moved : (slot other : ℕ) (t : Temporaries) → slot ≡ other → At slot t → At other t
   moved slot other t same r = subst (λ k. At k t) same r
 
-  load_comes : (h : Holder) (size : Size) (slot at : ℕ) (t : Temporaries) → at + size_of size ≤ length w.memory.block
+  pub load_comes : (h : Holder) (size : Size) (slot at : ℕ) (t : Temporaries) → at + size_of size ≤ length w.memory.block
       → instruction_at w.program slot ≡ Some (Load size (register_of h) 6 (pos at)) → At slot t
       → At (slot + 1) (holding h (little_number (size_of size) (drop at w.memory.block)) t)
   load_comes Fourth size slot at t inside stands r =
-      subst (λ x. At (slot + 1) (record t { r4 = x })) (loaded_is (record w.memory { scratch = scratch }) w.short at (size_of size) inside)
+      subst (λ x. At (slot + 1) (record t { r4 = x })) (loaded_is (record w.memory { scratch = scratch; stack = t.stack }) w.short at (size_of size) inside)
       (goes w.program w.limit w.fuel w.start w.exits (between w slot t scratch group frames) (Load size 4 6 (pos at)) stands refl r)
   load_comes Fifth size slot at t inside stands r =
-      subst (λ x. At (slot + 1) (record t { r5 = x })) (loaded_is (record w.memory { scratch = scratch }) w.short at (size_of size) inside)
+      subst (λ x. At (slot + 1) (record t { r5 = x })) (loaded_is (record w.memory { scratch = scratch; stack = t.stack }) w.short at (size_of size) inside)
       (goes w.program w.limit w.fuel w.start w.exits (between w slot t scratch group frames) (Load size 5 6 (pos at)) stands refl r)
 
   swap_comes : (h : Holder) (o : Option SwapSize) (slot x : ℕ) (t : Temporaries) → Stands w.program slot (swap_code (register_of h) o)

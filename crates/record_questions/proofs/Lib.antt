@@ -9,6 +9,7 @@ mod Comparisons
 mod Course
 mod Tests
 mod Matches
+mod Stacking
 mod Records
 mod Words
 mod Reach

@@ -116,7 +116,7 @@ module _ (w : Course) (group : List ℕ) (frames : ℕ) where
       → At w scratch group frames (slot + 1) (record t { r4 = field scratch at 8 })
   word_loaded slot at scratch t inside stands r =
       subst (λ x. At w scratch group frames (slot + 1) (record t { r4 = x }))
-      (scratch_loaded_is (record w.memory { scratch = scratch }) w.short at inside)
+      (scratch_loaded_is (record w.memory { scratch = scratch; stack = t.stack }) w.short at inside)
       (goes w.program w.limit w.fuel w.start w.exits (between w slot t scratch group frames) (Load DoubleWord 4 7 (pos at)) stands refl r)
 
   word_stored : (slot at : ℕ) (scratch : List ℕ) (t : Temporaries) → at + 8 ≤ SCRATCH_BYTES
@@ -125,7 +125,7 @@ module _ (w : Course) (group : List ℕ) (frames : ℕ) where
   word_stored slot at scratch t inside stands r =
       let raw = goes w.program w.limit w.fuel w.start w.exits (between w slot t scratch group frames) (StoreRegister DoubleWord 7 4 (pos at)) stands refl r in
       subst (λ (n : Memory). ComesTo w (record (between w (slot + 1) t scratch group frames) { memory = n }))
-      (scratch_stored_is (record w.memory { scratch = scratch }) w.short at inside t.r4) raw
+      (scratch_stored_is (record w.memory { scratch = scratch; stack = t.stack }) w.short at inside t.r4) raw
 
   -- ---- one tally
 
@@ -241,8 +241,8 @@ module _ (w : Course) (scratch group : List ℕ) (frames : ℕ) where
       → Comes w scratch group frames slot
       → Comes w scratch (group ++ frame (take size (drop at w.memory.block))) (frames + 1) (slot + 4)
   emit_comes slot at size inside stands come =
-      let m = record w.memory { scratch = scratch } in
       let t = come.t in
+      let m = record w.memory { scratch = scratch; stack = t.stack } in
       let w_at : immediate_word (pos at) ≡ at = mod-eq_of_lt (omega (arith, w.short)) in
       let w_size : immediate_word (pos size) ≡ size = mod-eq_of_lt (omega (arith, w.short)) in
       let first : At w scratch group frames (slot + 1) (record t { r1 = address_of Block })
@@ -257,7 +257,7 @@ module _ (w : Course) (scratch group : List ℕ) (frames : ℕ) where
       = goes w.program w.limit w.fuel w.start w.exits (between w (slot + 1 + 1) u scratch group frames)
       (Arithmetic Bits64 Move 2 (Immediate (pos size))) stands.1.1.0 refl second in
       let third = subst (λ (x : ℕ). At w scratch group frames (slot + 1 + 1 + 1) (record u { r2 = x })) w_size raw2 in
-      let zeros : Temporaries = record { r1 = 0; r2 = 0; r3 = 0; r4 = 0; r5 = 0 } in
+      let zeros = record t { r1 = 0; r2 = 0; r3 = 0; r4 = 0; r5 = 0 } in
       let last : At w scratch (group ++ frame (bytes_at m (address_of Block + at) size)) (frames + 1) (slot + 1 + 1 + 1 + 1) zeros
       = goes w.program w.limit w.fuel w.start w.exits (between w (slot + 1 + 1 + 1) (record u { r2 = size }) scratch group frames)
       (Call EMIT) stands.1.1.1.0 refl third in

@@ -19,7 +19,8 @@ use Rattle.record_questions.specs.declared.question.Predicate.TheVariants.{Compa
 use Rattle.record_questions.specs.declared.question.Tally.{Tally}
 use Rattle.record_questions.specs.declared.question.Tally.TheVariants.{Count, Sum, Least, Greatest}
 use Rattle.record_questions.specs.declared.question.Question.{Question}
-use Rattle.record_questions.specs.Asked.{AreTallies, IsField, IsOperand, IsPredicate, IsQuestion, IsTallied, IsTally}
+use Rattle.record_questions.specs.declared.question.ByteRange.{ByteRange}
+use Rattle.record_questions.specs.Asked.{AreRanges, AreTallies, IsField, IsOperand, IsPredicate, IsQuestion, IsRange, IsTallied, IsTally}
 use Rattle.record_questions.specs.Code.{chunk_operand}
 
 some_bytes : (s : Size) → 1 ≤ size_of s
@@ -65,6 +66,13 @@ tallies_in : (ts : List Tally) (size n : ℕ) → size ≤ n → AreTallies size
 tallies_in [] size n le is = is
 tallies_in (t ∷ ts) size n le is = (tally_in t size n le is.0, tallies_in ts size n le is.1)
 
+range_in : (range : ByteRange) (size n : ℕ) → size ≤ n → IsRange size range → IsRange n range
+range_in range size n le is = (is.0, omega (arith, is.1, le))
+
+ranges_in : (ranges : List ByteRange) (size n : ℕ) → size ≤ n → AreRanges size ranges → AreRanges n ranges
+ranges_in [] size n le are = are
+ranges_in (range ∷ ranges) size n le are = (range_in range size n le are.0, ranges_in ranges size n le are.1)
+
 -- ---- records of a block
 
 largest : LARGEST_BLOCK ≡ 2 ^ 14
@@ -78,6 +86,9 @@ predicate_near p byte size inside is = predicate_in p size (2 ^ 15 - byte) (left
 
 pub tallies_near : (ts : List Tally) (byte size : ℕ) → byte + size ≤ LARGEST_BLOCK → AreTallies size ts → AreTallies (2 ^ 15 - byte) ts
 tallies_near ts byte size inside is = tallies_in ts size (2 ^ 15 - byte) (left byte size inside) is
+
+pub ranges_near : (ranges : List ByteRange) (byte size : ℕ) → byte + size ≤ LARGEST_BLOCK → AreRanges size ranges → AreRanges (2 ^ 15 - byte) ranges
+ranges_near ranges byte size inside are = ranges_in ranges size (2 ^ 15 - byte) (left byte size inside) are
 
 pub record_inside : (q : Question) (i : ℕ) → IsQuestion LARGEST_BLOCK q → i < q.count → q.first + i * q.size + q.size ≤ LARGEST_BLOCK
 record_inside q i is less =
