@@ -284,7 +284,7 @@ fn ask_copy<'a, F: Files, O: Write, E: Write>(
         wanted,
     } = request;
     let device = device_file::load_copy(alloc, required(matches, IMAGE), files)?;
-    let plan = planned(alloc, matches, &layout, wanted, device.image())?;
+    let plan = planned(alloc, matches, &layout, wanted, form, device.image())?;
     if required(matches, EXPLAIN) == "true" {
         let text = explained(alloc, &layout, &plan)?;
         return printed(out.write_all(text.as_bytes()));
@@ -321,7 +321,7 @@ fn ask_image<'a, F: Files, O: Write, E: Write>(
     } = request;
     let path = required(matches, IMAGE);
     let device = device_file::load_to_replace::<Intervals, F>(alloc, path, files)?;
-    let plan = planned(alloc, matches, &layout, wanted, device.image())?;
+    let plan = planned(alloc, matches, &layout, wanted, form, device.image())?;
     image_file::check_place(path, files)?;
     let mut asked = AskedDevice::new(alloc, device)?;
     answer(alloc, &mut asked, &plan, form, out)?;
@@ -336,15 +336,21 @@ fn planned<'a>(
     matches: &ArgMatches<'a>,
     layout: &RecordLayout,
     wanted: Wanted,
+    form: Form,
     image: &Image,
 ) -> Result<Plan, Failure<'a>> {
     let argument = number(matches, ARGUMENT_OPTION)?;
     let source = source_asked(alloc, matches, image)?;
     let geometry = image.geometry();
-    let mut question = question_asked(alloc, matches, layout, &wanted, geometry.block())?;
+    let range = wanted.range(alloc)?;
+    let emitted = match form {
+        Form::Raw => wanted.range(alloc)?,
+        Form::Lines | Form::Json => wanted.ranges(alloc)?,
+    };
+    let mut question = question_asked(alloc, matches, layout, &wanted, emitted, geometry.block())?;
     let records = question.count;
-    let parts = parts_of(alloc, &mut question, geometry.block())?;
-    let appends = question.emitted.is_some();
+    let parts = parts_of(alloc, &mut question, range, geometry.block())?;
+    let appends = !question.emitted.is_empty();
     let destination = destination_for(alloc, matches, image, source.zone, appends)?;
     let block = geometry.block();
     let blocks = blocks_of_run(block, parts.as_slice(), appends, geometry.capacity());
