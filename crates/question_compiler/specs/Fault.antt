@@ -1,5 +1,5 @@
 -- Why a question has no accepted program.
-use Rattle.std.specs.Prelude.{ℕ, List, [], ◌∷◌, None, ◌≡◌, ◌<◌, ◌≤◌, ◌+◌, ◌*◌, length, max, Some}
+use Rattle.std.specs.Prelude.{ℕ, List, [], ◌∷◌, ◌≡◌, ◌<◌, ◌≤◌, ◌+◌, ◌*◌, length, max, Some}
 use Rattle.program_interface.specs.RunSizes.{Sizes}
 use Rattle.program_interface.specs.declared.TheConstants.{MOST_SLOTS}
 use Rattle.program_interface.specs.declared.area.TheConstants.{SCRATCH_BYTES, STACK_BYTES}

@@ -65,15 +65,21 @@ module _ (m : Memory) (short : length m.block < 2 ^ 32) (k : ℕ) (inside : k + 
   scratch_stored_is word = ap (λ o. stored_at m o (little_bytes 8 word)) scratch_there
 
 -- an address so many bytes before the end of the stack
+back : (k : ℕ) → suc k ≤ STACK_BYTES
+    → (address_of Stack + STACK_BYTES + (2 ^ 64 - suc k)) % 2 ^ 64 ≡ address_of Stack + (STACK_BYTES - suc k)
+back k room = omega (arith, room)
+
 stored_back : (left : ℕ) → left ≤ STACK_BYTES
     → (address_of Stack + STACK_BYTES + cast_unsigned w64 (neg_ℤ (pos left))) % 2 ^ 64 ≡ address_of Stack + (STACK_BYTES - left)
 stored_back zero room = refl
-stored_back (suc k) room = omega (arith, room)
+stored_back (suc k) room = back k room
 
 pub stack_end_is : (left : ℕ) → left ≤ STACK_BYTES
     → (address_of Stack + STACK_BYTES + immediate_word (neg_ℤ (pos left))) % 2 ^ 64 ≡ address_of Stack + (STACK_BYTES - left)
 stack_end_is zero room = refl
-stack_end_is (suc k) room = omega (arith, room)
+stack_end_is (suc k) room =
+    let same : (2 ^ 64 - suc k) % 2 ^ 64 ≡ 2 ^ 64 - suc k = omega (arith, room) in
+    ap (λ (n : ℕ). (address_of Stack + STACK_BYTES + n) % 2 ^ 64) same ∙ back k room
 
 -- what a store leaves on the stack, and what is emitted of it
 module _ (m : Memory) (short : length m.block < 2 ^ 32) (left n : ℕ) (room : left ≤ STACK_BYTES) (inside : n ≤ left) where

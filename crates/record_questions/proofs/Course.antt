@@ -114,7 +114,7 @@ module _ (w : Course) (scratch group : List ℕ) (frames : ℕ) where
 
   swap_comes : (h : Holder) (o : Option SwapSize) (slot x : ℕ) (t : Temporaries) → Stands w.program slot (swap_code (register_of h) o)
       → At slot (holding h x t) → At (slot + slot_count (swap_code (register_of h) o)) (holding h (swapped o x) t)
-  swap_comes h None slot x t stands r = let e : slot ≡ slot + 0 = omega arith in moved _ _ _ e r
+  swap_comes h None slot x t stands r = let e : slot ≡ slot + 0 = omega arith in moved _ _ (holding h x t) e r
   swap_comes Fourth (Some size) slot x t stands r =
       goes w.program w.limit w.fuel w.start w.exits (between w slot (record t { r4 = x }) scratch group frames) (SwapBytes ToBig size 4) stands.0 refl r
   swap_comes Fifth (Some size) slot x t stands r =
@@ -122,7 +122,7 @@ module _ (w : Course) (scratch group : List ℕ) (frames : ℕ) where
 
   extension_comes : (h : Holder) (o : Option SignExtension) (slot x : ℕ) (t : Temporaries) → Stands w.program slot (extension_code (register_of h) o)
       → At slot (holding h x t) → At (slot + slot_count (extension_code (register_of h) o)) (holding h (lengthened o x) t)
-  extension_comes h None slot x t stands r = let e : slot ≡ slot + 0 = omega arith in moved _ _ _ e r
+  extension_comes h None slot x t stands r = let e : slot ≡ slot + 0 = omega arith in moved _ _ (holding h x t) e r
   extension_comes Fourth (Some e) slot x t stands r =
       goes w.program w.limit w.fuel w.start w.exits (between w slot (record t { r4 = x }) scratch group frames) (MoveSigned e 4 4) stands.0 refl r
   extension_comes Fifth (Some e) slot x t stands r =
@@ -152,7 +152,8 @@ module _ (w : Course) (scratch group : List ℕ) (frames : ℕ) where
       let turned = swap_comes h (swap_of f.order f.size) (slot + 1) _ t (front_stands w.program (slot + 1) a b stands.1) loaded in
       let whole = extension_comes h (extension_of f.sign f.size) (slot + 1 + slot_count a) _ t (back_stands w.program (slot + 1) a b stands.1) turned in
       let e : slot + 1 + slot_count a + slot_count b ≡ slot + (1 + slot_count (a ++ b)) = omega (arith, slot_count-append a b) in
-      subst (λ x. At (slot + (1 + slot_count (a ++ b))) (holding h x t)) (word_is f byte size inside) (moved _ _ _ e whole)
+      subst (λ x. At (slot + (1 + slot_count (a ++ b))) (holding h x t)) (word_is f byte size inside)
+      (moved _ _ (holding h (lengthened (extension_of f.sign f.size) (swapped (swap_of f.order f.size) (little_number (size_of f.size) (drop (byte + f.offset) w.memory.block)))) t) e whole)
 
   -- ---- operands
 
@@ -169,7 +170,7 @@ module _ (w : Course) (scratch group : List ℕ) (frames : ℕ) where
       (if immediate then Immediate z else Register 5) (cast_unsigned w64 z)
   number_comes true z slot t small stands r =
       let e : slot ≡ slot + 0 = omega arith in
-      record { t = t; reached = moved _ _ _ e r; first = refl; second = mod-eq_of_lt small }
+      record { t = t; reached = moved _ _ t e r; first = refl; second = mod-eq_of_lt small }
   number_comes false z slot t small stands r =
       record {
         t = record t { r5 = cast_unsigned w64 z % 2 ^ 64 };
@@ -186,7 +187,7 @@ module _ (w : Course) (scratch group : List ℕ) (frames : ℕ) where
   operand_comes (operands.Number z) f slot byte size t is fits stands r = number_comes (is_immediate z) z slot t (word_fits f.sign z is) stands r
   operand_comes operands.Argument f slot byte size t is fits stands r =
       let e : slot ≡ slot + 0 = omega arith in
-      record { t = t; reached = moved _ _ _ e r; first = refl; second = refl }
+      record { t = t; reached = moved _ _ t e r; first = refl; second = refl }
   operand_comes (operands.Field g) f slot byte size t is fits stands r =
       record {
         t = record t { r5 = word_in g (take size (drop byte w.memory.block)) };

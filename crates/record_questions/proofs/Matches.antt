@@ -159,7 +159,7 @@ module _ (w : Course) (group : List ℕ) (frames : ℕ) where
         (Arithmetic Bits64 Add 5 (Immediate (neg_ℤ (pos 1)))) later.1.0 refl b in
         let e : n + 1 + 1 ≡ slot + slot_count (load ++ turned) = omega (arith, slot_count-append load turned) in
         subst (λ v. At w scratch group frames (slot + slot_count (load ++ turned)) (record t { r5 = v })) (left x (number_in_fits f _ (record_bytes size byte block w.bytes)))
-        (moved w scratch group frames _ _ _ e c)
+        (moved w scratch group frames _ _ (record t { r5 = ((2 ^ 64 - x) % 2 ^ 64 + immediate_word (neg_ℤ (pos 1))) % 2 ^ 64 }) e c)
 
     greater : (b : Bool) (slot v x : ℕ) (t : Temporaries) → t.r4 ≡ v → t.r5 ≡ x → nat_le x v ≡ b
         → instruction_at w.program (slot + 1) ≡ Some (Arithmetic Bits64 Move 4 (Register 5))

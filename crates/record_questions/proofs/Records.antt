@@ -162,7 +162,15 @@ module _ (w : Course) (q : Question) (is : IsQuestion (length w.memory.block) q)
 
 -- the registers at the start, but R8, and the stack
 abbrev at_first : Temporaries
-at_first = record { r1 = address_of areas.Context; r2 = address_of areas.Block; r3 = address_of areas.Scratch; r4 = 0; r5 = 0; stack = replicate STACK_BYTES 0; whole = length-replicate STACK_BYTES 0 }
+at_first = record {
+  r1 = address_of areas.Context;
+  r2 = address_of areas.Block;
+  r3 = address_of areas.Scratch;
+  r4 = 0;
+  r5 = 0;
+  stack = replicate STACK_BYTES 0;
+  whole = length-replicate {A = ℕ} STACK_BYTES 0;
+}
 
 pub answers_from : (q : Question) (limit fuel : ℕ) (bytes context scratch : List ℕ) → IsQuestion (length bytes) q
     → IsMemory (at_start bytes context scratch).memory

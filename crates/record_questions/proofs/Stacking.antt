@@ -1,5 +1,5 @@
 -- What a block run does to emit ranges of a record: it puts them together on the stack.
-use Rattle.std.proofs.Common.{ℕ, zero, suc, pos, ◌+◌, ◌-◌, ◌*◌, ◌<◌, ◌≤◌, ◌^◌, ◌%◌, ◌≡◌, List, [], ◌∷◌, ◌++◌, length, take, drop, Some, refl, sym, ap, ◌∙◌, subst, arith, append_assoc, length-append, length-take, length-drop}
+use Rattle.std.proofs.Common.{ℕ, pos, ◌+◌, ◌-◌, ◌*◌, ◌<◌, ◌≤◌, ◌^◌, ◌%◌, ◌≡◌, List, [], ◌∷◌, ◌++◌, length, take, drop, refl, sym, ap, ◌∙◌, subst, arith, append_assoc, length-append, length-take, length-drop}
 use Rattle.std.proofs.Math.Nat.{mod-eq_of_lt}
 use Rattle.std.proofs.lemmas.List.{append-nil, drop-append-le, drop-drop, drop-take, take-append-drop, take-append-le, take-take, take_all}
 use Rattle.std.specs.Prelude.{neg_ℤ}
@@ -7,8 +7,7 @@ use Rattle.byteorder.specs.Endian.{little_bytes, little_number}
 use Rattle.common_definitions.proofs.Proved.{bytes_from, front_spelled, length-spliced}
 use Rattle.common_definitions.specs.Bytes.{AreBytes, spliced}
 use Rattle.instruction_set.specs.Instruction.{immediate_word, size_of}
-use Rattle.instruction_set.specs.Program.{instruction_at}
-use Rattle.instruction_set.specs.declared.instruction.Instruction.TheVariants.{Load, Arithmetic, Call, StoreRegister}
+use Rattle.instruction_set.specs.declared.instruction.Instruction.TheVariants.{Arithmetic, Call, StoreRegister}
 use Rattle.instruction_set.specs.declared.instruction.Source.TheVariants.{Immediate, Register}
 use Rattle.instruction_set.specs.declared.operation.Operation.TheVariants.{Add, Move}
 use Rattle.instruction_set.specs.declared.operation.Size.{Size}
