@@ -191,9 +191,9 @@ How a question is understood, and what asking it takes.
   where: u8@2 == 3 && !(u32@4 < 10)
   records: 16 of 32 bytes in each block, from byte 0 on
   select: price u32 @4, number u16 @0
-  program: 132 of 4096 slots, for 16 records of each block; it emits at most 160 bytes for a block (--emit 160)
+  program: 196 of 4096 slots, for 16 records of each block; it emits at most 128 bytes for a block (--emit 128)
   source: 4 blocks of zone 0
-  room: 2 blocks of zone 1, if all records match
+  room: 1 block of zone 1, if all records match
   runs: 1 run, each over at most 4 blocks
   $ query --where 'region == 3' --count --explain
   where: u8@2 == 3
@@ -207,21 +207,34 @@ How a question is understood, and what asking it takes.
 Whole records of a full block are more than one program may emit, so that there are two, and a run of each for each block. The rows are
 in order all the same.
 
-  $ { cat orders.layout; echo 'rest bytes12 @20'; } > whole.layout
+  $ { cat orders.layout; printf 'rest bytes12 @20\nfourth u8 @3\ntenth u16 @10\n'; } > whole.layout
   $ whole() { zscli query orders.img --zone 0 --layout whole.layout "$@"; }
-  $ whole --where 'price > 90000' 2> noted | sed 's/,0x0*$//; s/,rest$//' > answer
+  $ whole --where 'price > 90000' 2> noted | sed 's/,0x0*,0,0$//; s/,rest,fourth,tenth$//' > answer
   $ cat noted
   note: 2 programs, 8 runs
   $ same 'select * from orders where price > 90000'
   $ whole --where 'price > 90000' --explain
   where: u32@4 > 90000
   records: 16 of 32 bytes in each block, from byte 0 on
-  select: number u16 @0, region u8 @2, price u32 @4, temperature i16be @8, word text8 @12, rest bytes12 @20
+  select: number u16 @0, region u8 @2, price u32 @4, temperature i16be @8, word text8 @12, rest bytes12 @20, fourth u8 @3, tenth u16 @10
   program: 52 of 4096 slots, for 8 records of each block; it emits at most 272 bytes for a block (--emit 272)
   program: 52 of 4096 slots, for 8 records of each block; it emits at most 272 bytes for a block (--emit 272)
   source: 4 blocks of zone 0
   room: 8 blocks of zone 1, if all records match
   runs: 8 runs, each over at most 1 block
+
+The selected fields alone are emitted where one program holds their copies: those that lie side by side in one piece.
+
+  $ query --where 'price > 90000' --select word,temperature,price --explain
+  where: u32@4 > 90000
+  records: 16 of 32 bytes in each block, from byte 0 on
+  select: word text8 @12, temperature i16be @8, price u32 @4
+  program: 196 of 4096 slots, for 16 records of each block; it emits at most 256 bytes for a block (--emit 256)
+  source: 4 blocks of zone 0
+  room: 2 blocks of zone 1, if all records match
+  runs: 1 run, each over at most 4 blocks
+  $ query --where 'price > 90000' --select word,temperature,price,temperature > answer
+  $ same 'select word, temperature, price, temperature from orders where price > 90000'
 
 The program of a question for a device of one's own.
 

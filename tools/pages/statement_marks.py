@@ -224,14 +224,15 @@ MARKS: Dict[str, str] = {
     ),
     "record_questions/src/question.rt": "P: Sign ByteOrder Field Comparison Operand Predicate ByteRange Tally Grouping Question",
     "record_questions/specs/Question.antt": (
-        "P: number_of number_in signed_by value_of operand_value compares matches records_in matching cut cuts answer"
+        "P: number_of number_in signed_by value_of operand_value compares matches records_in matching bytes_in cut cuts answer"
     ),
     "record_questions/specs/Tallies.antt": (
         "P: word_in rank_of value_at rank_in tally_step tallied_from groups words_of group_of tallied_in tallied_of is_of records_of "
         "tally_from word_at; -: IsLeast IsGreatest total_of WordsAreTallied TalliesAreTotals"
     ),
     "record_questions/specs/Asked.antt": (
-        "P: IsField IsNumber IsOperand IsPredicate IsRange IsTally AreTallies IsGrouping IsQuestion"
+        "P: IsField IsNumber IsOperand IsPredicate IsRange AreRanges emitted_bytes stacked_bytes IsTally AreTallies IsGrouping "
+        "IsQuestion"
     ),
     "question_runs/specs/Loaded.antt": "-: IsProgramOf HasQuestion NoEventLoads load_by QuestionWasLoaded CompiledQuestionsLoad",
     "question_compiler/specs/Compiled.antt": "-: IsCompiled",

@@ -3,7 +3,6 @@
 use crate::answering::Plan;
 use crate::columns::{Column, Kind, push_type};
 use crate::compiled::CompiledQuestion;
-use crate::layout::RecordLayout;
 use crate::wanted::Wanted;
 use command_files::Counted;
 use emit_append::blocks_needed;
@@ -14,13 +13,12 @@ use std::alloc::{AllocError, Global};
 /// The question in full, and the programs that ask it.
 pub(crate) fn explained(
     alloc: Global,
-    layout: &RecordLayout,
     compiled: &CompiledQuestion,
 ) -> Result<String, AllocError> {
     let mut text = String::new(alloc);
     let condition = text_of(alloc, &compiled.question.wanted)?;
     writeln!(text, "where: {}", condition.as_str())?;
-    let shape = layout.shape;
+    let shape = compiled.layout.shape;
     let first = shape.first;
     let size = shape.size;
     let records = compiled.records;

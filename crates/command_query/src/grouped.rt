@@ -11,7 +11,7 @@ use command_files::Failure;
 use command_files::arguments::required;
 use instruction_set::Size;
 use program_interface::{BlockSize, SCRATCH_BYTES};
-use record_questions::{Comparison, Field, Grouping, Operand, Predicate, Question, Sign, Tally};
+use record_questions::{ByteRange, Comparison, Field, Grouping, Operand, Predicate, Question, Sign, Tally};
 use std::alloc::{AllocError, Global};
 
 /// The option that names the field by which records are grouped.
@@ -85,7 +85,7 @@ pub(crate) fn groups_asked<'a>(
     }))
 }
 
-/// The programs of a question: those of all groups, where it has some, one group after another. The question is left with the records
+/// The programs of a question: those of all groups, where it has some, one group after another; range as of [`parts_of`]. It is left with the records
 /// and the groups of the last.
 ///
 /// # Errors
@@ -95,10 +95,11 @@ pub(crate) fn parts_of_groups<'a>(
     alloc: Global,
     groups: Option<&Groups>,
     question: &mut Question,
+    range: Vec<ByteRange>,
     block: BlockSize,
 ) -> Result<Vec<Part>, Failure<'a>> {
     let Some(groups) = groups else {
-        return parts_of(alloc, question, block);
+        return parts_of(alloc, question, range, block);
     };
     let first = question.first;
     let count = question.count;
@@ -112,7 +113,7 @@ pub(crate) fn parts_of_groups<'a>(
             first: before,
             values: groups.of_program.min(groups.count.saturating_sub(before)),
         });
-        for part in parts_of(alloc, question, block)? {
+        for part in parts_of(alloc, question, Vec::new(alloc), block)? {
             add(&mut parts, part)?;
         }
     }
@@ -144,7 +145,7 @@ pub(crate) fn beyond_of(
         size,
         count,
         wanted: Predicate::And(Box::new(alloc, wanted)?, Box::new(alloc, lacks)?),
-        emitted: None,
+        emitted: Vec::new(alloc),
         tallies,
         by: None,
     })

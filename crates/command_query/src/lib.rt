@@ -14,6 +14,7 @@ mod layout;
 mod layout_fault;
 mod parts;
 pub mod query;
+mod ranges;
 mod records;
 mod refused;
 mod rows;

@@ -7,7 +7,7 @@ use ebpf_decode::encode;
 use nvme_entry::{MOST_TRANSFER, PROGRAM_SLOTS};
 use program_interface::{BlockSize, FRAME_LENGTH_BYTES, MOST_SLOTS, RunSizes};
 use question_compiler::{QuestionFault, compile};
-use record_questions::Question;
+use record_questions::{ByteRange, Question, emitted_bytes};
 use std::alloc::Global;
 
 /// A program over some neighbouring records of a block.
@@ -25,7 +25,8 @@ pub(crate) struct Part {
     pub(crate) first_group: u16,
 }
 
-/// The programs of a question: as few as hold it. The question is left with the records of the last.
+/// The programs of a question: as few as hold it. Several ranges are emitted where one program holds them, else this one range over all
+/// of them, which takes fewer slots. The question is left with what they emit, and with the records of the last.
 ///
 /// # Errors
 ///
@@ -33,10 +34,17 @@ pub(crate) struct Part {
 pub(crate) fn parts_of<'a>(
     alloc: Global,
     question: &mut Question,
+    range: Vec<ByteRange>,
     block: BlockSize,
 ) -> Result<Vec<Part>, Failure<'a>> {
     let first = question.first;
     let count = question.count;
+    if question.emitted.len() > 1 {
+        if let Some(parts) = parts_in(alloc, question, first, count, 1, block)? {
+            return Ok(parts);
+        }
+        question.emitted = range;
+    }
     for number in 1..PROGRAM_SLOTS as u16 + 1 {
         if let Some(parts) = parts_in(alloc, question, first, count, number, block)? {
             return Ok(parts);
@@ -88,7 +96,11 @@ fn part_of<'a>(
     let verified = match compile(alloc, question, sizes) {
         Ok(verified) => verified,
         Err(QuestionFault::Memory) => return Err(Failure::NoMemory),
-        Err(QuestionFault::OverLimit { .. } | QuestionFault::TooLong(_)) => return Ok(None),
+        Err(
+            QuestionFault::OverLimit { .. }
+            | QuestionFault::EmittedPassStack(_)
+            | QuestionFault::TooLong(_),
+        ) => return Ok(None),
         Err(fault) => return Err(refused(format!(in alloc; "no program asks this: {fault}"))),
     };
     let program = encode(alloc, verified.program())?;
@@ -109,13 +121,10 @@ fn part_of<'a>(
 
 /// The bytes that are emitted for a block whose records all match.
 fn most_emitted(question: &Question) -> u32 {
-    match question.emitted {
-        Some(range) => u32::from(question.count).saturating_mul(framed(range.size)),
-        None => 0,
+    if question.emitted.is_empty() {
+        return 0;
     }
-}
-
-/// The bytes of a frame with a record of so many.
-fn framed(size: u16) -> u32 {
-    FRAME_LENGTH_BYTES as u32 + u32::from(size)
+    let frame = emitted_bytes(&question.emitted).saturating_add(FRAME_LENGTH_BYTES as u64);
+    let most = u64::from(question.count).saturating_mul(frame);
+    most.min(u64::from(u32::MAX)) as u32
 }

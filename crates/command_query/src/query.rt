@@ -8,11 +8,11 @@ ghost use Rattle.command_query.specs.Files.{AsksNoFile, program_file};
 
 use crate::answering::{Plan, answer, blocks_of_run};
 use crate::commands::AskedDevice;
-use crate::compiled::compile_question;
+use crate::compiled::{Request, compile_question};
 use crate::destination::{INTO, destination_for};
 use crate::explained::{explained, push_work};
-use crate::grouped::{BY, Groups, groups_asked};
-use crate::layout::{RecordLayout, load};
+use crate::grouped::{BY, groups_asked};
+use crate::layout::load;
 use crate::refused::refused;
 use crate::rows::Form;
 use crate::source::{BLOCKS, ZONE, first_of, source_asked};
@@ -263,32 +263,19 @@ pub fn query<'a, F: Files, O: Write, E: Write>(
     let wanted = wanted_of(alloc, matches, &layout)?;
     check_form(alloc, form, &wanted)?;
     let groups = groups_asked(alloc, matches, &layout, &wanted)?;
-    if !required(matches, BLOCK_OPTION).is_empty() {
-        return tell_of_blocks(alloc, matches, &layout, wanted, groups, files, out);
-    }
     let request = Request {
         form,
         layout,
         wanted,
         groups,
     };
+    if !required(matches, BLOCK_OPTION).is_empty() {
+        return tell_of_blocks(alloc, matches, request, files, out);
+    }
     if required(matches, INTO).is_empty() || is_only_told(matches) {
         return ask_copy(alloc, matches, request, files, out, err);
     }
     ask_image(alloc, matches, request, files, out, err)
-}
-
-/// What is asked.
-#[derive(Drop)]
-struct Request {
-    /// The form in which the answer is printed.
-    form: Form,
-    /// The layout of the records.
-    layout: RecordLayout,
-    /// What is printed.
-    wanted: Wanted,
-    /// The groups of the records, if they are grouped.
-    groups: Option<Groups>,
 }
 
 /// Asks a question of a device in memory, and prints the answer; or prints how it is understood; or writes a program of it.
@@ -307,16 +294,11 @@ fn ask_copy<'a, F: Files, O: Write, E: Write>(
     ensures contents { OnErr result (F.contents files.new ≡ F.contents files.old) }
     ensures unnoted { OnErr result (E.contents err.new ≡ E.contents err.old) }
 {
-    let Request {
-        form,
-        layout,
-        wanted,
-        groups,
-    } = request;
+    let form = request.form;
     let device = device_file::load_copy(alloc, required(matches, IMAGE), files)?;
-    let plan = planned(alloc, matches, &layout, wanted, groups, device.image())?;
+    let plan = planned(alloc, matches, request, device.image())?;
     if is_explained(matches) {
-        let mut text = explained(alloc, &layout, &plan.compiled)?;
+        let mut text = explained(alloc, &plan.compiled)?;
         push_work(&plan, &mut text)?;
         return printed(out.write_all(text.as_bytes()));
     }
@@ -344,15 +326,10 @@ fn ask_image<'a, F: Files, O: Write, E: Write>(
     ensures contents { OnErr result (F.contents files.new ≡ F.contents files.old) }
     ensures unnoted { OnErr result (E.contents err.new ≡ E.contents err.old) }
 {
-    let Request {
-        form,
-        layout,
-        wanted,
-        groups,
-    } = request;
+    let form = request.form;
     let path = required(matches, IMAGE);
     let device = device_file::load_to_replace::<Intervals, F>(alloc, path, files)?;
-    let plan = planned(alloc, matches, &layout, wanted, groups, device.image())?;
+    let plan = planned(alloc, matches, request, device.image())?;
     image_file::check_place(path, files)?;
     let mut asked = AskedDevice::new(alloc, device)?;
     answer(alloc, &mut asked, &plan, form, out)?;
@@ -365,16 +342,14 @@ fn ask_image<'a, F: Files, O: Write, E: Write>(
 fn planned<'a>(
     alloc: Global,
     matches: &ArgMatches<'a>,
-    layout: &RecordLayout,
-    wanted: Wanted,
-    groups: Option<Groups>,
+    request: Request,
     image: &Image,
 ) -> Result<Plan, Failure<'a>> {
     let argument = number(matches, ARGUMENT_OPTION)?;
     let source = source_asked(alloc, matches, image)?;
     let geometry = image.geometry();
-    let compiled = compile_question(alloc, matches, layout, wanted, groups, geometry.block())?;
-    let appends = compiled.question.emitted.is_some();
+    let compiled = compile_question(alloc, matches, request, geometry.block())?;
+    let appends = !compiled.question.emitted.is_empty();
     let destination = destination_for(alloc, matches, image, source.zone, appends)?;
     let parts = compiled.parts.as_slice();
     let blocks = blocks_of_run(compiled.block, parts, appends, geometry.capacity());

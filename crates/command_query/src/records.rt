@@ -5,9 +5,11 @@ ghost use Rattle.std.specs.Prelude.{◌<◌, length, IfSome};
 use crate::answering::Plan;
 use crate::cells::cell_of;
 use crate::columns::Column;
+use crate::ranges::part_with;
 use crate::rows::Printed;
 use byteorder::{ByteOrder, LittleEndian};
 use program_interface::FRAME_LENGTH_BYTES;
+use record_questions::ByteRange;
 use std::alloc::AllocError;
 
 /// Adds a row of each record in blocks that a program appended.
@@ -17,12 +19,9 @@ pub(crate) fn push_rows(
     bytes: &[u8],
     printing: &mut Printed,
 ) -> Result<(), AllocError> {
-    let from = match plan.compiled.wanted.range() {
-        Some(range) => range.offset,
-        None => 0,
-    };
+    let ranges = plan.compiled.question.emitted.as_slice();
     for block in bytes.chunks(plan.compiled.block.bytes() as usize) {
-        push_rows_of_block(columns, from, block, printing)?;
+        push_rows_of_block(columns, ranges, block, printing)?;
     }
     Ok(())
 }
@@ -30,13 +29,13 @@ pub(crate) fn push_rows(
 /// Adds a row of each record in a block.
 fn push_rows_of_block(
     columns: &[Column],
-    from: u16,
+    ranges: &[ByteRange],
     block: &[u8],
     printing: &mut Printed,
 ) -> Result<(), AllocError> {
     let mut rest = block;
     while let Some((record, after)) = first_record(rest) {
-        push_row(columns, from, record, printing)?;
+        push_row(columns, ranges, record, printing)?;
         rest = after;
     }
     Ok(())
@@ -57,16 +56,17 @@ fn first_record(bytes: &[u8]) -> Option<(&[u8], &[u8])>
     Some(frame.split_at(length))
 }
 
-/// Adds the row of a record, of whose bytes the first is at an offset of it.
+/// Adds the row of a record, of which these ranges were emitted.
 fn push_row(
     columns: &[Column],
-    from: u16,
+    ranges: &[ByteRange],
     record: &[u8],
     printing: &mut Printed,
 ) -> Result<(), AllocError> {
     printing.begin_row()?;
     for (index, column) in columns.iter().enumerate() {
-        printing.push_cell(index, column.name.as_str(), cell_of(column, from, record))?;
+        let (from, bytes) = part_with(ranges, column.kind, record);
+        printing.push_cell(index, column.name.as_str(), cell_of(column, from, bytes))?;
     }
     printing.end_row(record)
 }

@@ -4,13 +4,10 @@ ghost use Rattle.std.specs.Prelude.{◌≡◌, [], OnErr};
 ghost use Rattle.command_files.specs.Made.{MakesAtMost};
 ghost use Rattle.command_query.specs.Files.{program_file};
 
-use crate::compiled::{CompiledQuestion, compile_question};
+use crate::compiled::{CompiledQuestion, Request, compile_question};
 use crate::explained::explained;
-use crate::grouped::Groups;
-use crate::layout::RecordLayout;
 use crate::parts::Part;
 use crate::refused::refused;
-use crate::wanted::Wanted;
 use clap::ArgMatches;
 use command_files::arguments::{BLOCK_OPTION, block_size, number, required};
 use command_files::{Failure, Files, Shown, printed, write};
@@ -44,9 +41,7 @@ pub(crate) fn is_only_told(matches: &ArgMatches<'_>) -> bool {
 pub(crate) fn tell_of_blocks<'a, F: Files, O: Write>(
     alloc: Global,
     matches: &ArgMatches<'a>,
-    layout: &RecordLayout,
-    wanted: Wanted,
-    groups: Option<Groups>,
+    request: Request,
     files: &mut F,
     out: &mut O,
 ) -> Result<(), Failure<'a>>
@@ -57,9 +52,9 @@ pub(crate) fn tell_of_blocks<'a, F: Files, O: Write>(
     ensures contents { OnErr result (F.contents files.new ≡ F.contents files.old) }
 {
     let block = block_size(number(matches, BLOCK_OPTION)?)?;
-    let compiled = compile_question(alloc, matches, layout, wanted, groups, block)?;
+    let compiled = compile_question(alloc, matches, request, block)?;
     if is_explained(matches) {
-        let text = explained(alloc, layout, &compiled)?;
+        let text = explained(alloc, &compiled)?;
         return printed(out.write_all(text.as_bytes()));
     }
     if required(matches, PROGRAM).is_empty() {

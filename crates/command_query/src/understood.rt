@@ -9,7 +9,7 @@ use command_files::Failure;
 use command_files::arguments::required;
 use program_interface::BlockSize;
 use question_words::{FaultKind, ReadFault, WordFault, read};
-use record_questions::{Field, Operand, Predicate, Question};
+use record_questions::{ByteRange, Field, Operand, Predicate, Question};
 use std::alloc::{AllocError, Global};
 use std::str;
 
@@ -26,6 +26,7 @@ pub(crate) fn question_asked<'a>(
     matches: &ArgMatches<'a>,
     layout: &RecordLayout,
     wanted: &Wanted,
+    emitted: Vec<ByteRange>,
     block: BlockSize,
 ) -> Result<Question, Failure<'a>> {
     let size = layout.shape.size;
@@ -45,7 +46,7 @@ pub(crate) fn question_asked<'a>(
         size,
         count,
         wanted: wanted_records,
-        emitted: wanted.range(),
+        emitted,
         tallies: wanted.tallies(alloc)?,
         by: None,
     })

@@ -3,6 +3,7 @@
 use crate::adding::add;
 use crate::columns::{Column, Kind};
 use crate::layout::RecordLayout;
+use crate::ranges::{range_over, ranges_of};
 use crate::refused::refused;
 use clap::ArgMatches;
 use command_files::arguments::required;
@@ -44,12 +45,23 @@ pub(crate) enum Wanted {
 }
 
 impl Wanted {
-    /// The bytes of a record that have all columns.
-    pub(crate) fn range(&self) -> Option<ByteRange> {
+    /// The bytes of a record that are emitted: those of the columns.
+    pub(crate) fn ranges(&self, alloc: Global) -> Result<Vec<ByteRange>, AllocError> {
         match self {
-            Wanted::Rows(columns) => range_of(columns.as_slice()),
-            Wanted::Tallies(_) => None,
+            Wanted::Rows(columns) => ranges_of(alloc, columns.as_slice()),
+            Wanted::Tallies(_) => Ok(Vec::new(alloc)),
         }
+    }
+
+    /// All bytes from the first column to the end of the last.
+    pub(crate) fn range(&self, alloc: Global) -> Result<Vec<ByteRange>, AllocError> {
+        let mut ranges = Vec::new(alloc);
+        if let Wanted::Rows(columns) = self {
+            if let Some(range) = range_over(columns.as_slice()) {
+                ranges.extend_from_slice(&[range])?;
+            }
+        }
+        Ok(ranges)
     }
 
     /// What is tallied: first the number of the records, by which it is known whether there is a least and a greatest; then the other
@@ -66,24 +78,6 @@ impl Wanted {
         }
         Ok(tallies)
     }
-}
-
-/// The bytes of a record from the first of some columns to the end of the last.
-fn range_of(columns: &[Column]) -> Option<ByteRange> {
-    let mut first = u16::MAX;
-    let mut end = 0;
-    for column in columns {
-        first = first.min(column.kind.offset());
-        end = end.max(column.kind.end());
-    }
-    let size = end.saturating_sub(u32::from(first));
-    if size == 0 || size > u32::from(u16::MAX) {
-        return None;
-    }
-    Some(ByteRange {
-        offset: first,
-        size: size as u16,
-    })
 }
 
 /// What the words ask for: tallies, or columns, which are all of the layout where none is named.

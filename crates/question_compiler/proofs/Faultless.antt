@@ -1,5 +1,5 @@
 -- What is compiled within the limit has no fault.
-use Rattle.std.proofs.Common.{ℕ, ◌≡◌, ◌≤◌, List, length, Option, Some, None, refl, subst, arith}
+use Rattle.std.proofs.Common.{ℕ, ◌≡◌, ◌≤◌, List, [], ◌∷◌, length, Option, None, refl, subst, arith}
 use Rattle.accepted_programs.specs.Accepted.{refusal}
 use Rattle.instruction_set.specs.declared.instruction.Instruction.{Instruction}
 use Rattle.interval_domain.specs.Intervals.{intervals}
@@ -8,13 +8,16 @@ use Rattle.program_interface.specs.declared.TheConstants.{MOST_SLOTS}
 use Rattle.question_compiler.specs.Compiled.{IsCompiled}
 use Rattle.question_compiler.specs.Fault.{HasNoFault, emitted_end, most_emitted}
 use Rattle.question_compiler.specs.declared.fault.QuestionFault.TheVariants as fault
-use Rattle.record_questions.specs.Asked.{IsRange}
+use Rattle.record_questions.specs.Asked.{AreRanges}
 use Rattle.record_questions.specs.declared.question.ByteRange.{ByteRange}
 use Rattle.record_questions.specs.declared.question.Question.{Question}
 
-ends_inside : (range : Option ByteRange) (size : ℕ) → IsRange size range → emitted_end range ≤ size
-ends_inside None size is = omega arith
-ends_inside (Some range) size is = is.1
+ends_inside : (ranges : List ByteRange) (size : ℕ) → AreRanges size ranges → emitted_end ranges ≤ size
+ends_inside [] size are = omega arith
+ends_inside (range ∷ ranges) size are =
+    let first = are.0.1 in
+    let rest = ends_inside ranges size are.1 in
+    omega (arith, first, rest)
 
 pub no_fault : (q : Question) (sizes : Sizes) (program : List (Option Instruction))
     → IsCompiled q sizes program → most_emitted q ≤ sizes.limit → HasNoFault q sizes
@@ -23,14 +26,18 @@ no_fault q sizes program is within (fault.RecordsPassBlock end block) so =
     let a = so.0 in let b = so.1 in let c = so.2 in
     absurd (omega (arith, inside, a, b, c))
 no_fault q sizes program is within (fault.EmittedPassRecord end size) so =
-    let inside = ends_inside q.emitted q.size is.asked.emitted in
+    let inside = ends_inside q.emitted.items q.size is.asked.emitted in
     let a = so.0 in let b = so.1 in let c = so.2 in
     absurd (omega (arith, inside, a, b, c))
+no_fault q sizes program is within (fault.EmittedPassStack count) so =
+    let room = is.asked.stacked in
+    let b = so.1 in
+    absurd (omega (arith, room, b))
 no_fault q sizes program is within (fault.TooManyTallies count) so =
     let few = is.asked.few_tallies in
     let many = so.1 in
     absurd (omega (arith, few, many))
-no_fault q sizes program is within fault.NoQuestion so = absurd (so.3 is.asked)
+no_fault q sizes program is within fault.NoQuestion so = absurd (so.4 is.asked)
 no_fault q sizes program is within (fault.OverLimit needed limit) so =
     let a = so.0 in let b = so.1 in let c = so.2 in
     absurd (omega (arith, within, a, b, c))

@@ -17,6 +17,7 @@ asked_of_largest block q less is =
       inside = omega (arith, inside, less);
       wanted = is.wanted;
       emitted = is.emitted;
+      stacked = is.stacked;
       tallies = is.tallies;
       by = is.by;
       few_tallies = is.few_tallies;

@@ -1,12 +1,13 @@
 //! From a question to its program.
 
-ghost use Rattle.std.specs.Prelude.{◌≡◌, ◌≤◌, IfOk, IfErr};
+ghost use Rattle.std.specs.Prelude.{◌≡◌, ◌≤◌, ◌<◌, ◌+◌, ◌^◌, IfOk, IfErr};
 ghost use Rattle.instruction_set.specs.Program.{slots_of};
 ghost use Rattle.question_compiler.specs.Compiled.{IsCompiled};
-ghost use Rattle.question_compiler.specs.Fault.{HasNoFault, IsFaultOf, emitted_end, most_emitted};
+ghost use Rattle.question_compiler.specs.Fault.{HasNoFault, IsFaultOf, emitted_end, frame_bytes, most_emitted};
 ghost use Rattle.program_interface.specs.RunSizes.{Sizes};
+ghost use Rattle.program_interface.specs.declared.area.TheConstants.{STACK_BYTES};
 ghost use Rattle.program_interface.specs.declared.block_size.TheConstants.{LARGEST_BLOCK};
-ghost use Rattle.record_questions.specs.Asked.{IsQuestion};
+ghost use Rattle.record_questions.specs.Asked.{IsQuestion, stacked_bytes};
 ghost use Rattle.record_questions.specs.Code.{question_program};
 ghost use Rattle.verifier.specs.Verified.{program_of, sizes_of};
 
@@ -14,8 +15,11 @@ use crate::fault::QuestionFault;
 use crate::fits::all_fit;
 use instruction_set::{Instruction, Program};
 use interval_domain::Intervals;
-use program_interface::{FRAME_LENGTH_BYTES, RunSizes, SCRATCH_BYTES};
-use record_questions::{ByteRange, CodeFault, Question, instructions, is_question, words_of};
+use program_interface::{FRAME_LENGTH_BYTES, RunSizes, SCRATCH_BYTES, STACK_BYTES};
+use record_questions::{
+    ByteRange, CodeFault, Question, emitted_bytes, instructions, is_question, stacked_bytes,
+    words_of,
+};
 use std::alloc::Global;
 use verifier::{Verified, VerifyFault, verify};
 
@@ -48,10 +52,14 @@ fn fitted(question: &Question, sizes: RunSizes) -> Result<(), QuestionFault>
     if end > block {
         return Err(QuestionFault::RecordsPassBlock { end, block });
     }
-    let end = emitted_end(question.emitted);
+    let end = emitted_end(&question.emitted);
     let size = question.size;
     if end > size as u32 {
         return Err(QuestionFault::EmittedPassRecord { end, size });
+    }
+    let count = stacked_bytes(&question.emitted);
+    if count > STACK_BYTES as u64 {
+        return Err(QuestionFault::EmittedPassStack(count));
     }
     let count = words_of(question);
     if count > SCRATCH_BYTES / 8 {
@@ -69,23 +77,38 @@ fn fitted(question: &Question, sizes: RunSizes) -> Result<(), QuestionFault>
 }
 
 /// The byte of a record at which what is emitted of it ends.
-fn emitted_end(range: Option<ByteRange>) -> u32
-    ensures { result ≡ emitted_end range }
+fn emitted_end(ranges: &[ByteRange]) -> u32
+    ensures value { result ≡ emitted_end ranges.now }
+    ensures few { result < 2 ^ 17 }
 {
-    match range {
-        None => 0,
-        Some(range) => range.offset as u32 + range.size as u32,
+    match ranges {
+        [] => 0,
+        [first, rest @ ..] => {
+            let end = first.offset as u32 + first.size as u32;
+            end.max(emitted_end(rest))
+        }
+    }
+}
+
+/// The bytes of the frame of a match.
+fn frame_bytes(ranges: &[ByteRange]) -> u32
+    requires { stacked_bytes ranges.now ≤ STACK_BYTES }
+    ensures value { result ≡ frame_bytes ranges.now }
+    ensures few { result ≤ 2 ^ 16 + 1 }
+{
+    match ranges {
+        [] => 0,
+        [range] => FRAME_LENGTH_BYTES as u32 + range.size as u32,
+        _ => FRAME_LENGTH_BYTES as u32 + emitted_bytes(ranges) as u32,
     }
 }
 
 /// The bytes that are emitted for a block whose records all match.
 fn most_emitted(question: &Question) -> u32
+    requires { stacked_bytes question.now.emitted.items ≤ STACK_BYTES }
     ensures { result ≡ most_emitted question.now }
 {
-    match question.emitted {
-        Some(range) => question.count as u32 * (FRAME_LENGTH_BYTES as u32 + range.size as u32),
-        None => 0,
-    }
+    question.count as u32 * frame_bytes(&question.emitted)
 }
 
 /// The program of a question.
@@ -109,7 +132,7 @@ fn program(alloc: Global, question: &Question) -> Result<Program, QuestionFault>
 ///
 /// # Errors
 ///
-/// What doesn't fit: the records or the emitted bytes, the tallies, a field or a number, what may be emitted for a block, the slots of
+/// What doesn't fit: the records or the emitted bytes, several ranges of them on the stack, the tallies, a field or a number, what may be emitted for a block, the slots of
 /// the program; the refusal of the verifier; or want of memory. Where none of them holds it gives the program.
 #[tactic(auto, using(crate::proofs::Faultless::no_fault))]
 pub fn compile(

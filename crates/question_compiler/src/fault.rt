@@ -1,7 +1,7 @@
 //! Why a question has no accepted program.
 
 use accepted_programs::Refusal;
-use program_interface::{MOST_SLOTS, SCRATCH_BYTES};
+use program_interface::{MOST_SLOTS, SCRATCH_BYTES, STACK_BYTES};
 use std::alloc::{AllocError, AllocFailed};
 use thiserror::Error;
 
@@ -24,12 +24,15 @@ pub enum QuestionFault {
         /// How many bytes a record has.
         size: u16,
     },
+    /// Several ranges are emitted, and they have more bytes than the stack, where they are put together: so many, as far as 64 bits count.
+    #[error("{0} emitted bytes in several ranges, and the stack has {STACK_BYTES}")]
+    EmittedPassStack(u64),
     /// The tallies of all groups have more words than scratch: so many, as far as 64 bits count.
     #[error("{0} words of tallies, and scratch has {most}", most = SCRATCH_BYTES / 8)]
     TooManyTallies(usize),
     /// Something else of it can't be asked: it has no records, or records of no bytes, a field ends after its record, a number has more
-    /// than 64 bits, fields of different signs are compared, bytes are compared with none, no byte of a
-    /// match is emitted, or the groups are none, by a signed field, or of values of 2^16 and more.
+    /// than 64 bits, fields of different signs are compared, bytes are compared with none, a range of no bytes is emitted, or the groups
+    /// are none, by a signed field, or of values of 2^16 and more.
     #[error("no records or no bytes, or a field that passes its record, or can't be compared, grouped by or emitted so")]
     NoQuestion,
     /// A block whose records all match takes more bytes than the limit.

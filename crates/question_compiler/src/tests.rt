@@ -41,19 +41,25 @@ fn bytes(alloc: Global, offset: u16, text: &str) -> Result<Predicate, Fail> {
 }
 
 /// Asked of blocks of 512 bytes full of records of 16: it emits each match whole but two bytes, so that a block of matches takes 512.
-fn of_full_blocks(alloc: Global, wanted: Predicate) -> Question {
-    Question {
+fn of_full_blocks(alloc: Global, wanted: Predicate) -> Result<Question, Fail> {
+    Ok(Question {
         first: 0,
         size: 16,
         count: 32,
         wanted,
-        emitted: Some(ByteRange {
+        emitted: ranges(alloc, &[ByteRange {
             offset: 2,
             size: 14,
-        }),
+        }])?,
         tallies: Vec::new(alloc),
         by: None,
-    }
+    })
+}
+
+fn ranges(alloc: Global, these: &[ByteRange]) -> Result<Vec<ByteRange>, Fail> {
+    let mut ranges = Vec::new(alloc);
+    ranges.extend_from_slice(these)?;
+    Ok(ranges)
 }
 
 /// The slots of a question's program, which is accepted for blocks of 512 bytes.
@@ -67,7 +73,7 @@ fn slots_of(alloc: Global, question: &Question) -> Result<Vec<Option<Instruction
 }
 
 fn is_asked(rt: &impl Abort, alloc: Global, wanted: Predicate, count: usize) -> Result<(), Fail> {
-    let slots = slots_of(alloc, &of_full_blocks(alloc, wanted))?;
+    let slots = slots_of(alloc, &of_full_blocks(alloc, wanted)?)?;
     assert_eq!(rt; slots.len(), count);
     Ok(())
 }
@@ -125,8 +131,8 @@ fn predicates_are_asked(rt: &impl Abort, alloc: Global) -> Result<(), Fail> {
 
 fn tallies_are_asked(rt: &impl Abort, alloc: Global) -> Result<(), Fail> {
     let wanted = compare(WORD, Comparison::NotEqual, Operand::Number(0));
-    let mut question = of_full_blocks(alloc, wanted);
-    question.emitted = None;
+    let mut question = of_full_blocks(alloc, wanted)?;
+    question.emitted = Vec::new(alloc);
     question.tallies.extend_from_slice(&[
         Tally::Count,
         Tally::Sum(WORD),
@@ -141,8 +147,8 @@ fn tallies_are_asked(rt: &impl Abort, alloc: Global) -> Result<(), Fail> {
 /// The load of a signed number of eight bytes, the highest first, takes two slots, and its rank three more.
 fn signed_tallies_are_asked(rt: &impl Abort, alloc: Global) -> Result<(), Fail> {
     let wanted = compare(WORD, Comparison::NotEqual, Operand::Number(0));
-    let mut question = of_full_blocks(alloc, wanted);
-    question.emitted = None;
+    let mut question = of_full_blocks(alloc, wanted)?;
+    question.emitted.clear();
     question.tallies.extend_from_slice(&[
         Tally::Sum(WIDE),
         Tally::Least(WIDE),
@@ -164,7 +170,7 @@ fn groups_are_asked(rt: &impl Abort, alloc: Global) -> Result<(), Fail> {
         order: ByteOrder::Big,
         ..WORD
     };
-    let mut question = of_full_blocks(alloc, wanted);
+    let mut question = of_full_blocks(alloc, wanted)?;
     question
         .tallies
         .extend_from_slice(&[Tally::Count, Tally::Sum(WIDE), Tally::Least(WORD)])?;
@@ -185,11 +191,31 @@ fn groups_are_asked(rt: &impl Abort, alloc: Global) -> Result<(), Fail> {
     Ok(())
 }
 
+/// A range of 11 bytes is copied in chunks of 8, 2 and 1, and one of 3 in chunks of 2 and 1: two slots each.
+fn several_ranges_are_asked(rt: &impl Abort, alloc: Global) -> Result<(), Fail> {
+    let wanted = compare(WORD, Comparison::NotEqual, Operand::Number(0));
+    let mut question = of_full_blocks(alloc, wanted)?;
+    question.emitted = ranges(
+        alloc,
+        &[
+            ByteRange {
+                offset: 5,
+                size: 11,
+            },
+            ByteRange { offset: 0, size: 3 },
+        ],
+    )?;
+    let slots = slots_of(alloc, &question)?;
+    assert_eq!(rt; slots.len(), 4 + 32 * (2 + 2 * 5 + 4));
+    Ok(())
+}
+
 #[test]
 fn questions_of_each_kind_are_accepted(rt: HostRuntime) -> Result<(), Fail> {
     let alloc = rt.alloc();
     comparisons_are_asked(&rt, alloc)?;
     predicates_are_asked(&rt, alloc)?;
+    several_ranges_are_asked(&rt, alloc)?;
     tallies_are_asked(&rt, alloc)?;
     signed_tallies_are_asked(&rt, alloc)?;
     groups_are_asked(&rt, alloc)
@@ -272,11 +298,11 @@ fn a_program_is_as_worked_out_by_hand(rt: HostRuntime) -> Result<(), Fail> {
     let mut question = of_full_blocks(
         alloc,
         compare(WORD, Comparison::Greater, Operand::Number(7)),
-    );
+    )?;
     question.first = 4;
     question.size = 8;
     question.count = 2;
-    question.emitted = Some(ByteRange { offset: 0, size: 2 });
+    question.emitted = ranges(alloc, &[ByteRange { offset: 0, size: 2 }])?;
     question.tallies.extend_from_slice(&[Tally::Count])?;
     let mut wanted = Vec::new(alloc);
     push(&mut wanted, load(Size::Word, 8, 1, 20))?;

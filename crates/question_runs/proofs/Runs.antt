@@ -1,5 +1,5 @@
 -- The block runs of a question's program, over the source blocks of a run.
-use Rattle.std.proofs.Common.{ℕ, zero, suc, ◌+◌, ◌*◌, ◌/◌, ◌%◌, ◌<◌, ◌≤◌, ◌^◌, ◌≡◌, Bool, true, false, cond, List, [], ◌∷◌, ◌++◌, length, take, drop, replicate, Option, Some, None, refl, sym, ap, ◌∙◌, subst, arith, lit<, length-append, length-drop}
+use Rattle.std.proofs.Common.{ℕ, zero, suc, ◌+◌, ◌*◌, ◌/◌, ◌%◌, ◌<◌, ◌≤◌, ◌^◌, ◌≡◌, Bool, true, false, cond, List, [], ◌∷◌, ◌++◌, length, take, drop, replicate, Option, Some, refl, sym, ap, ◌∙◌, subst, arith, lit<, length-append, length-drop}
 use Rattle.std.proofs.lemmas.List.{length-take-le}
 use Rattle.std.proofs.lemmas.List.Sums.{sum_by-cons}
 use Rattle.std.specs.List.{AllByRecursion, flat_map, last_or}
@@ -18,10 +18,10 @@ use Rattle.program_meaning.specs.State.{IsState, at_start}
 use Rattle.program_meaning.specs.TrapFree.{NeverTraps}
 use Rattle.device_meaning.proofs.Proved.{IsDone}
 use Rattle.device_meaning.specs.BlockRuns.{AreScratch, Task, block_run, block_run_over, block_runs_from, context, frames_of, goes_on, groups_of, scratch_after, until_ended}
-use Rattle.record_questions.specs.Asked.{IsQuestion, IsRange}
+use Rattle.record_questions.specs.Asked.{AreRanges, IsQuestion}
 use Rattle.record_questions.specs.Code.{question_program}
 use Rattle.record_questions.specs.Laws.{Answers, AnswersBlocks, argument_in}
-use Rattle.record_questions.specs.Question.{answer, cut, cuts, matches, matching, records_in}
+use Rattle.record_questions.specs.Question.{answer, bytes_in, cut, cuts, matches, matching, records_in}
 use Rattle.record_questions.specs.Tallies.{group_of, tallied_in, tallied_of}
 use Rattle.record_questions.specs.declared.question.ByteRange.{ByteRange}
 use Rattle.record_questions.specs.declared.question.Question.{Question}
@@ -109,12 +109,12 @@ module _ (law : AnswersBlocks) (q : Question) (task : Task) (is : IsQuestion tas
 abbrev AllSome : List (List ℕ) → Type 0
 AllSome records = AllByRecursion (λ (bytes : List ℕ). 0 < length bytes) records
 
-cuts_some : (size : ℕ) (range : ByteRange) (rs : List (List ℕ)) → 1 ≤ range.size → range.offset + range.size ≤ size
-    → AllByRecursion (λ (r : List ℕ). size ≤ length r) rs → AllSome (map (cut range) rs)
-cuts_some size range [] some inside long = tt
-cuts_some size range (r ∷ rs) some inside long =
-    let whole : length (take range.size (drop range.offset r)) ≡ range.size = length-take-le range.size (drop range.offset r) (rw length-drop (omega (arith, long.0, inside))) in
-    (omega (arith, whole, some), cuts_some size range rs some inside long.1)
+cuts_some : (size : ℕ) (range : ByteRange) (ranges : List ByteRange) (rs : List (List ℕ)) → 1 ≤ range.size → range.offset + range.size ≤ size
+    → AllByRecursion (λ (r : List ℕ). size ≤ length r) rs → AllSome (map (cut (range ∷ ranges)) rs)
+cuts_some size range ranges [] some inside long = tt
+cuts_some size range ranges (r ∷ rs) some inside long =
+    let first : length (bytes_in range r) ≡ range.size = length-take-le range.size (drop range.offset r) (rw length-drop (omega (arith, long.0, inside))) in
+    (omega (arith, first, some, length-append (bytes_in range r) (cut ranges r)), cuts_some size range ranges rs some inside long.1)
 
 kept_first : (P : List ℕ → Type 0) (b : Bool) (r : List ℕ) (rs : List (List ℕ)) → P r → AllByRecursion P rs → AllByRecursion P (cond b (r ∷ rs) rs)
 kept_first P true r rs h hs = (h, hs)
@@ -136,18 +136,17 @@ matching_long q argument bytes inside =
     kept_all (λ (r : List ℕ). q.size ≤ length r) (matches argument q.wanted) (records_in q bytes)
     (pieces_long q.size q.count (drop q.first bytes) (rw length-drop (omega (arith, inside))))
 
-emitted_some : (q : Question) (argument : ℕ) (bytes : List ℕ) (emitted : Option ByteRange) → q.emitted ≡ emitted → IsQuestion (length bytes) q
-    → AllSome (cuts emitted (matching q argument bytes))
-emitted_some q argument bytes None e is = tt
-emitted_some q argument bytes (Some range) e is =
-    let inside = subst (IsRange q.size) e is.emitted in
-    cuts_some q.size range (matching q argument bytes) inside.0 inside.1 (matching_long q argument bytes is.inside)
+emitted_some : (q : Question) (argument : ℕ) (bytes : List ℕ) (ranges : List ByteRange) → AreRanges q.size ranges → IsQuestion (length bytes) q
+    → AllSome (cuts ranges (matching q argument bytes))
+emitted_some q argument bytes [] are is = tt
+emitted_some q argument bytes (range ∷ ranges) are is =
+    cuts_some q.size range ranges (matching q argument bytes) are.0.0 are.0.1 (matching_long q argument bytes is.inside)
 
 pub all_some : (q : Question) (argument block : ℕ) (blocks : List (List ℕ)) → IsQuestion block q → AllByRecursion (IsWhole block) blocks
     → AllByRecursion AllSome (map (answer q argument) blocks)
 all_some q argument block [] is whole = tt
 all_some q argument block (bytes ∷ blocks) is whole = (
-  emitted_some q argument bytes q.emitted refl (subst (λ n. IsQuestion n q) (sym whole.0.size) is),
+  emitted_some q argument bytes q.emitted.items is.emitted (subst (λ n. IsQuestion n q) (sym whole.0.size) is),
   all_some q argument block blocks is whole.1,
 )
 

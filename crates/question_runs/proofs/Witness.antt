@@ -1,5 +1,5 @@
 -- A question of which the laws speak, by computing the definitions.
-use Rattle.std.proofs.Common.{◌≡◌, ℕ, Bool, true, false, List, [], ◌∷◌, ◌++◌, replicate, Option, Some, None, Ok, refl, lit<, lit≤}
+use Rattle.std.proofs.Common.{◌≡◌, ℕ, Bool, true, false, List, [], ◌∷◌, ◌++◌, replicate, Option, None, Ok, refl, lit<, lit≤}
 use Rattle.std.specs.Prelude.{◌&&◌, nat_lt}
 use Rattle.std.proofs.lemmas.Bool.{and_parts, ltb-true}
 use Rattle.std.specs.declared.alloc.Global.{Global}
@@ -138,7 +138,15 @@ module _ (ptr : Ptr) (alloc : Global) where
     size = 8;
     count = 2;
     wanted = Compare first_byte GreaterOrEqual Argument;
-    emitted = Some (record { offset = 0; size = 2 });
+    emitted = record {
+      ptr = ptr;
+      len = 1;
+      cap = 1;
+      alloc = alloc;
+      items = record { offset = 0; size = 2 } ∷ [];
+      ok = (refl, lit≤ tt);
+      small = lit< tt;
+    };
     tallies = record { ptr = ptr; len = 1; cap = 1; alloc = alloc; items = Count ∷ []; ok = (refl, lit≤ tt); small = lit< tt };
     by = None;
   }
@@ -149,7 +157,8 @@ module _ (ptr : Ptr) (alloc : Global) where
     some_records = lit≤ tt;
     inside = lit≤ tt;
     wanted = (lit≤ tt, tt);
-    emitted = (lit≤ tt, lit≤ tt);
+    emitted = ((lit≤ tt, lit≤ tt), tt);
+    stacked = lit≤ tt;
     tallies = (tt, tt);
     by = tt;
     few_tallies = lit≤ tt;

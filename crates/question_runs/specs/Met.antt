@@ -1,5 +1,5 @@
 -- That there is a question of which the laws speak.
-use Rattle.std.specs.Prelude.{ℕ, Bool, ◌≡◌, ◌+◌, List, [], ◌∷◌, length, None}
+use Rattle.std.specs.Prelude.{ℕ, Bool, ◌≡◌, ◌+◌, List, [], ◌∷◌, length}
 use Rattle.std.specs.declared.alloc.Global.{Global}
 use Rattle.std.specs.Ptr.{Ptr}
 use Rattle.common_definitions.specs.Bytes.{AreBytes, field}
@@ -46,6 +46,6 @@ pub record IsMet : Type 0 where
   pub two_match : answer_of q command.argument (source_blocks state.namespace command) ≡ (9 ∷ 0 ∷ []) ∷ (8 ∷ 0 ∷ []) ∷ []
   pub count_is : field (tallies_of q command.argument (source_blocks state.namespace command)) 0 8 ≡ 2
 
--- all premises of `QuestionsAreAnswered` are met, wherever the question's list of tallies lies in memory
+-- all premises of `QuestionsAreAnswered` are met, wherever the question's lists lie in memory
 abbrev pub QuestionIsMet : Type 0
 QuestionIsMet = Ptr → Global → IsMet

@@ -1,19 +1,22 @@
 -- What a question's program reads of its memory, and what it stores there.
-use Rattle.std.proofs.Common.{ℕ, ◌+◌, ◌-◌, ◌<◌, ◌≤◌, ◌^◌, ◌%◌, ◌≡◌, true, List, length, take, drop, Some, ap, ◌∙◌, subst, arith}
+use Rattle.std.proofs.Common.{ℕ, zero, suc, pos, ◌+◌, ◌-◌, ◌<◌, ◌≤◌, ◌^◌, ◌%◌, ◌≡◌, true, List, length, take, drop, Some, refl, ap, ◌∙◌, subst, arith}
 use Rattle.std.proofs.Math.Nat.{mod-eq_of_lt}
 use Rattle.std.proofs.lemmas.Bool.{and_from, le-leb}
 use Rattle.std.proofs.lemmas.List.{drop-drop, drop-take, take-take}
-use Rattle.std.specs.Prelude.{nat_le}
+use Rattle.std.specs.Int.{w64, cast_unsigned}
+use Rattle.std.specs.Prelude.{nat_le, neg_ℤ}
 use Rattle.byteorder.specs.Endian.{big_number, little_bytes, little_number}
 use Rattle.byteorder.specs.Numbers.{big_from-take, little_from-take}
 use Rattle.common_definitions.specs.Bytes.{field, spliced}
 use Rattle.program_interface.specs.Area.{address_of}
-use Rattle.program_interface.specs.declared.area.Area.TheVariants.{Block, Context, Scratch}
-use Rattle.program_interface.specs.declared.area.TheConstants.{CONTEXT_BYTES, SCRATCH_BYTES}
+use Rattle.program_interface.specs.declared.area.Area.TheVariants.{Block, Context, Scratch, Stack}
+use Rattle.program_interface.specs.declared.area.TheConstants.{CONTEXT_BYTES, SCRATCH_BYTES, STACK_BYTES}
+use Rattle.instruction_set.specs.Instruction.{immediate_word, size_of}
+use Rattle.instruction_set.specs.declared.operation.Size.{Size}
 use Rattle.instruction_set.specs.declared.operation.Size.TheVariants.{DoubleWord}
 use Rattle.program_meaning.proofs.Proved.{areas_are_apart}
 use Rattle.program_meaning.specs.Effect.{bytes_at}
-use Rattle.program_meaning.specs.Memory.{Memory, area_offset_of, bytes_from, lies_in, loaded, stored, stored_at}
+use Rattle.program_meaning.specs.Memory.{Memory, area_offset_of, bytes_from, lies_in, loaded, stored, stored_at, truncated}
 use Rattle.record_questions.specs.declared.question.ByteOrder.{ByteOrder}
 use Rattle.record_questions.specs.declared.question.ByteOrder.TheVariants.{Little, Big}
 use Rattle.record_questions.specs.Question.{number_of}
@@ -60,6 +63,48 @@ module _ (m : Memory) (short : length m.block < 2 ^ 32) (k : ℕ) (inside : k + 
 
   pub scratch_stored_is : (word : ℕ) → stored m ((address_of Scratch + k) % 2 ^ 64) DoubleWord word ≡ record m { scratch = spliced k (little_bytes 8 word) m.scratch }
   scratch_stored_is word = ap (λ o. stored_at m o (little_bytes 8 word)) scratch_there
+
+-- an address so many bytes before the end of the stack
+back : (k : ℕ) → suc k ≤ STACK_BYTES
+    → (address_of Stack + STACK_BYTES + (2 ^ 64 - suc k)) % 2 ^ 64 ≡ address_of Stack + (STACK_BYTES - suc k)
+back k room = omega (arith, room)
+
+stored_back : (left : ℕ) → left ≤ STACK_BYTES
+    → (address_of Stack + STACK_BYTES + cast_unsigned w64 (neg_ℤ (pos left))) % 2 ^ 64 ≡ address_of Stack + (STACK_BYTES - left)
+stored_back zero room = refl
+stored_back (suc k) room = back k room
+
+pub stack_end_is : (left : ℕ) → left ≤ STACK_BYTES
+    → (address_of Stack + STACK_BYTES + immediate_word (neg_ℤ (pos left))) % 2 ^ 64 ≡ address_of Stack + (STACK_BYTES - left)
+stack_end_is zero room = refl
+stack_end_is (suc k) room =
+    let same : (2 ^ 64 - suc k) % 2 ^ 64 ≡ 2 ^ 64 - suc k = omega (arith, room) in
+    ap (λ (n : ℕ). (address_of Stack + STACK_BYTES + n) % 2 ^ 64) same ∙ back k room
+
+-- what a store leaves on the stack, and what is emitted of it
+module _ (m : Memory) (short : length m.block < 2 ^ 32) (left n : ℕ) (room : left ≤ STACK_BYTES) (inside : n ≤ left) where
+  stack_lies : lies_in (length m.block) Stack (address_of Stack + (STACK_BYTES - left)) n ≡ true
+  stack_lies = and_from (nat_le (address_of Stack) (address_of Stack + (STACK_BYTES - left)))
+      (nat_le (address_of Stack + (STACK_BYTES - left) + n) (address_of Stack + STACK_BYTES))
+      (le-leb (address_of Stack) (address_of Stack + (STACK_BYTES - left)) (omega arith))
+      (le-leb (address_of Stack + (STACK_BYTES - left) + n) (address_of Stack + STACK_BYTES) (omega (arith, room, inside)))
+
+  stack_there : area_offset_of (length m.block) (address_of Stack + (STACK_BYTES - left)) n ≡ Some (record { area = Stack; offset = STACK_BYTES - left })
+  stack_there =
+      let e : address_of Stack + (STACK_BYTES - left) - address_of Stack ≡ STACK_BYTES - left = omega arith in
+      areas_are_apart (length m.block) Stack (address_of Stack + (STACK_BYTES - left)) n short stack_lies
+      ∙ ap (λ (o : ℕ). Some (record { area = Stack; offset = o })) e
+
+pub stacked_stored_is : (m : Memory) → length m.block < 2 ^ 32 → (left : ℕ) (s : Size) → left ≤ STACK_BYTES → size_of s ≤ left → (word : ℕ)
+    → stored m ((address_of Stack + STACK_BYTES + cast_unsigned w64 (neg_ℤ (pos left))) % 2 ^ 64) s word
+    ≡ record m { stack = spliced (STACK_BYTES - left) (little_bytes (size_of s) (truncated s word)) m.stack }
+stacked_stored_is m short left s room inside word =
+    ap (λ a. stored m a s word) (stored_back left room)
+    ∙ ap (λ o. stored_at m o (little_bytes (size_of s) (truncated s word))) (stack_there m short left (size_of s) room inside)
+
+pub stacked_is : (m : Memory) → length m.block < 2 ^ 32 → (size : ℕ) → size ≤ STACK_BYTES
+    → bytes_at m (address_of Stack + (STACK_BYTES - size)) size ≡ take size (drop (STACK_BYTES - size) m.stack)
+stacked_is m short size room = ap (λ o. take size (bytes_from m o)) (stack_there m short size size room (omega arith))
 
 -- what it reads of the context
 module _ (m : Memory) (short : length m.block < 2 ^ 32) (k n : ℕ) (inside : k + n ≤ CONTEXT_BYTES) where

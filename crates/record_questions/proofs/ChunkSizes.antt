@@ -7,7 +7,7 @@ use Rattle.instruction_set.specs.declared.instruction.Instruction.{Instruction}
 use Rattle.instruction_set.specs.declared.operation.Size.{Size}
 use Rattle.instruction_set.specs.declared.operation.Size.TheVariants.{Byte, HalfWord, Word, DoubleWord}
 use Rattle.record_questions.specs.declared.question.Comparison.TheVariants.{Equal}
-use Rattle.record_questions.specs.Code.{counted, chunk_field, chunk_operand, chunk_size, chunk_sizes, chunks_code, chunks_slots, comparison_code, comparison_slots}
+use Rattle.record_questions.specs.Code.{counted, chunk_field, chunk_operand, chunk_size, chunk_sizes, chunks_code, chunks_slots, comparison_code, comparison_slots, copies_code, copy_code}
 
 -- the first chunk, and the others
 next_few : (n : ℕ) → 1 ≤ n → n < 8 → chunk_sizes n ≡ chunk_size n ∷ chunk_sizes (n - size_of (chunk_size n))
@@ -29,7 +29,7 @@ next_wide m =
     let d : (8 + m) % 2 ≡ m % 2 = omega arith in
     rw (a, b, c, d) refl
 
-next_size : (n : ℕ) → 1 ≤ n → chunk_sizes n ≡ chunk_size n ∷ chunk_sizes (n - size_of (chunk_size n))
+pub next_size : (n : ℕ) → 1 ≤ n → chunk_sizes n ≡ chunk_size n ∷ chunk_sizes (n - size_of (chunk_size n))
 next_size n some = by (nat_le 8 n) refl
   where
     by : (b : Bool) → nat_le 8 n ≡ b → chunk_sizes n ≡ chunk_size n ∷ chunk_sizes (n - size_of (chunk_size n))
@@ -84,6 +84,28 @@ next_code old between new byte offset next xs rest s skip left further some es e
     ∙ (ap (λ k. code (chunks_slots (chunk_sizes (length (drop (size_of s) xs))) (drop (size_of s) xs) + skip)
     ++ chunks_code byte k (chunk_sizes (length (drop (size_of s) xs))) (drop (size_of s) xs) skip) en
     ∙ sym (ap (λ ss. chunks_code byte offset ss xs skip) sizes))))))
+
+-- the copies of the first chunk and of the others
+pub next_copies : (old between new : List Instruction) (from left count bytes : ℕ) (s : Size) → 1 ≤ count → s ≡ chunk_size count → bytes ≡ size_of s
+    → between ≡ old ++ copy_code from left s
+    → new ≡ between ++ copies_code (from + bytes) (left - bytes) (chunk_sizes (count - bytes))
+    → new ≡ old ++ copies_code from left (chunk_sizes count)
+next_copies old between new from left count bytes s some es en first rest =
+    let others : ℕ → List Instruction = λ (n : ℕ). copies_code (from + n) (left - n) (chunk_sizes (count - n)) in
+    rest ∙ (ap (λ k. k ++ others bytes) first
+    ∙ (append_assoc old (copy_code from left s) (others bytes)
+    ∙ ap (λ k. old ++ k)
+    (ap (λ n. copy_code from left s ++ others n) en
+    ∙ (ap (λ (z : Size). copy_code from left z ++ others (size_of z)) es
+    ∙ sym (ap (λ ss. copies_code from left ss) (next_size count some))))))
+
+-- their slots
+pub next_copies_slots : (count bytes slots : ℕ) (s : Size) → 1 ≤ count → s ≡ chunk_size count → bytes ≡ size_of s
+    → slots ≡ 2 * length (chunk_sizes (count - bytes)) → slots + 2 ≡ 2 * length (chunk_sizes count)
+next_copies_slots count bytes slots s some es en rest =
+    let same = ap (λ n. length (chunk_sizes (count - n))) (en ∙ ap (λ (z : Size). size_of z) es) in
+    let whole = ap (λ (ss : List Size). length ss) (next_size count some) in
+    omega (arith, rest, same, whole)
 
 -- ---- what chunks come to
 

@@ -49,13 +49,15 @@ pub record Course : Type 0 where
   pub bytes : AreBytes memory.block
   pub small : argument < 2 ^ 32
 
--- the registers that pieces change
+-- the registers that pieces change, and the bytes of the stack
 pub record Temporaries : Type 0 where
   pub r1 : ℕ
   pub r2 : ℕ
   pub r3 : ℕ
   pub r4 : ℕ
   pub r5 : ℕ
+  pub stack : List ℕ
+  pub whole : length stack ≡ STACK_BYTES
 
 -- the registers between pieces: R0 is 0, R6 has the block's address, R7 that of scratch, and R8 the argument
 abbrev pub registers_of : ℕ → Temporaries → List ℕ
@@ -67,7 +69,7 @@ abbrev pub between : Course → ℕ → Temporaries → List ℕ → List ℕ �
 between w slot t scratch group frames = record {
   slot = slot;
   registers = registers_of w.argument t;
-  memory = record w.memory { scratch = scratch };
+  memory = record w.memory { scratch = scratch; stack = t.stack };
   group = group;
   frames = frames;
 }
@@ -97,19 +99,19 @@ module _ (w : Course) (scratch group : List ℕ) (frames : ℕ) where
   pub moved : (slot other : ℕ) (t : Temporaries) → slot ≡ other → At slot t → At other t
   moved slot other t same r = subst (λ k. At k t) same r
 
-  load_comes : (h : Holder) (size : Size) (slot at : ℕ) (t : Temporaries) → at + size_of size ≤ length w.memory.block
+  pub load_comes : (h : Holder) (size : Size) (slot at : ℕ) (t : Temporaries) → at + size_of size ≤ length w.memory.block
       → instruction_at w.program slot ≡ Some (Load size (register_of h) 6 (pos at)) → At slot t
       → At (slot + 1) (holding h (little_number (size_of size) (drop at w.memory.block)) t)
   load_comes Fourth size slot at t inside stands r =
-      subst (λ x. At (slot + 1) (record t { r4 = x })) (loaded_is (record w.memory { scratch = scratch }) w.short at (size_of size) inside)
+      subst (λ x. At (slot + 1) (record t { r4 = x })) (loaded_is (record w.memory { scratch = scratch; stack = t.stack }) w.short at (size_of size) inside)
       (goes w.program w.limit w.fuel w.start w.exits (between w slot t scratch group frames) (Load size 4 6 (pos at)) stands refl r)
   load_comes Fifth size slot at t inside stands r =
-      subst (λ x. At (slot + 1) (record t { r5 = x })) (loaded_is (record w.memory { scratch = scratch }) w.short at (size_of size) inside)
+      subst (λ x. At (slot + 1) (record t { r5 = x })) (loaded_is (record w.memory { scratch = scratch; stack = t.stack }) w.short at (size_of size) inside)
       (goes w.program w.limit w.fuel w.start w.exits (between w slot t scratch group frames) (Load size 5 6 (pos at)) stands refl r)
 
   swap_comes : (h : Holder) (o : Option SwapSize) (slot x : ℕ) (t : Temporaries) → Stands w.program slot (swap_code (register_of h) o)
       → At slot (holding h x t) → At (slot + slot_count (swap_code (register_of h) o)) (holding h (swapped o x) t)
-  swap_comes h None slot x t stands r = let e : slot ≡ slot + 0 = omega arith in moved _ _ _ e r
+  swap_comes h None slot x t stands r = let e : slot ≡ slot + 0 = omega arith in moved _ _ (holding h x t) e r
   swap_comes Fourth (Some size) slot x t stands r =
       goes w.program w.limit w.fuel w.start w.exits (between w slot (record t { r4 = x }) scratch group frames) (SwapBytes ToBig size 4) stands.0 refl r
   swap_comes Fifth (Some size) slot x t stands r =
@@ -117,7 +119,7 @@ module _ (w : Course) (scratch group : List ℕ) (frames : ℕ) where
 
   extension_comes : (h : Holder) (o : Option SignExtension) (slot x : ℕ) (t : Temporaries) → Stands w.program slot (extension_code (register_of h) o)
       → At slot (holding h x t) → At (slot + slot_count (extension_code (register_of h) o)) (holding h (lengthened o x) t)
-  extension_comes h None slot x t stands r = let e : slot ≡ slot + 0 = omega arith in moved _ _ _ e r
+  extension_comes h None slot x t stands r = let e : slot ≡ slot + 0 = omega arith in moved _ _ (holding h x t) e r
   extension_comes Fourth (Some e) slot x t stands r =
       goes w.program w.limit w.fuel w.start w.exits (between w slot (record t { r4 = x }) scratch group frames) (MoveSigned e 4 4) stands.0 refl r
   extension_comes Fifth (Some e) slot x t stands r =
@@ -147,7 +149,8 @@ module _ (w : Course) (scratch group : List ℕ) (frames : ℕ) where
       let turned = swap_comes h (swap_of f.order f.size) (slot + 1) _ t (front_stands w.program (slot + 1) a b stands.1) loaded in
       let whole = extension_comes h (extension_of f.sign f.size) (slot + 1 + slot_count a) _ t (back_stands w.program (slot + 1) a b stands.1) turned in
       let e : slot + 1 + slot_count a + slot_count b ≡ slot + (1 + slot_count (a ++ b)) = omega (arith, slot_count-append a b) in
-      subst (λ x. At (slot + (1 + slot_count (a ++ b))) (holding h x t)) (word_is f byte size inside) (moved _ _ _ e whole)
+      subst (λ x. At (slot + (1 + slot_count (a ++ b))) (holding h x t)) (word_is f byte size inside)
+      (moved _ _ (holding h (lengthened (extension_of f.sign f.size) (swapped (swap_of f.order f.size) (little_number (size_of f.size) (drop (byte + f.offset) w.memory.block)))) t) e whole)
 
   -- ---- operands
 
@@ -164,7 +167,7 @@ module _ (w : Course) (scratch group : List ℕ) (frames : ℕ) where
       (if immediate then Immediate z else Register 5) (cast_unsigned w64 z)
   number_comes true z slot t small stands r =
       let e : slot ≡ slot + 0 = omega arith in
-      record { t = t; reached = moved _ _ _ e r; first = refl; second = mod-eq_of_lt small }
+      record { t = t; reached = moved _ _ t e r; first = refl; second = mod-eq_of_lt small }
   number_comes false z slot t small stands r =
       record {
         t = record t { r5 = cast_unsigned w64 z % 2 ^ 64 };
@@ -181,7 +184,7 @@ module _ (w : Course) (scratch group : List ℕ) (frames : ℕ) where
   operand_comes (operands.Number z) f slot byte size t is fits stands r = number_comes (is_immediate z) z slot t (word_fits f.sign z is) stands r
   operand_comes operands.Argument f slot byte size t is fits stands r =
       let e : slot ≡ slot + 0 = omega arith in
-      record { t = t; reached = moved _ _ _ e r; first = refl; second = refl }
+      record { t = t; reached = moved _ _ t e r; first = refl; second = refl }
   operand_comes (operands.Field g) f slot byte size t is fits stands r =
       record {
         t = record t { r5 = word_in g (take size (drop byte w.memory.block)) };

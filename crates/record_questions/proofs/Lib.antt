@@ -10,6 +10,7 @@ mod Comparisons
 mod Course
 mod Tests
 mod Matches
+mod Stacking
 mod Groups
 mod Records
 mod Words

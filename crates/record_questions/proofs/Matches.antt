@@ -155,13 +155,13 @@ module _ (w : Course) (group : List ℕ) (frames : ℕ) where
       → place + 8 ≤ SCRATCH_BYTES → instruction_at w.program slot ≡ Some (Load DoubleWord 4 (base_register b) (pos at))
       → At w scratch group frames slot t → At w scratch group frames (slot + 1) (record t { r4 = field scratch place 8 })
   word_loaded Seventh start slot at place scratch t is e inside stands r =
-      let m = record w.memory { scratch = scratch } in
+      let m = record w.memory { scratch = scratch; stack = t.stack } in
       let same : at ≡ place = omega (arith, e, is) in
       subst (λ x. At w scratch group frames (slot + 1) (record t { r4 = x }))
       (ap (λ (k : ℕ). loaded m ((address_of Scratch + k) % 2 ^ 64) 8) same ∙ scratch_loaded_is m w.short place inside)
       (goes w.program w.limit w.fuel w.start w.exits (between w slot t scratch group frames) (Load DoubleWord 4 7 (pos at)) stands refl r)
   word_loaded Third start slot at place scratch t is e inside stands r =
-      let m = record w.memory { scratch = scratch } in
+      let m = record w.memory { scratch = scratch; stack = t.stack } in
       let same : t.r3 + at ≡ address_of Scratch + place = omega (arith, e, is) in
       subst (λ x. At w scratch group frames (slot + 1) (record t { r4 = x }))
       (ap (λ (k : ℕ). loaded m (k % 2 ^ 64) 8) same ∙ scratch_loaded_is m w.short place inside)
@@ -171,13 +171,13 @@ module _ (w : Course) (group : List ℕ) (frames : ℕ) where
       → place + 8 ≤ SCRATCH_BYTES → instruction_at w.program slot ≡ Some (StoreRegister DoubleWord (base_register b) 4 (pos at))
       → At w scratch group frames slot t → At w (spliced place (little_bytes 8 t.r4) scratch) group frames (slot + 1) t
   word_stored Seventh start slot at place scratch t is e inside stands r =
-      let m = record w.memory { scratch = scratch } in
+      let m = record w.memory { scratch = scratch; stack = t.stack } in
       let same : at ≡ place = omega (arith, e, is) in
       subst (λ (n : Memory). ComesTo w (record (between w (slot + 1) t scratch group frames) { memory = n }))
       (ap (λ (k : ℕ). stored m ((address_of Scratch + k) % 2 ^ 64) DoubleWord t.r4) same ∙ scratch_stored_is m w.short place inside t.r4)
       (goes w.program w.limit w.fuel w.start w.exits (between w slot t scratch group frames) (StoreRegister DoubleWord 7 4 (pos at)) stands refl r)
   word_stored Third start slot at place scratch t is e inside stands r =
-      let m = record w.memory { scratch = scratch } in
+      let m = record w.memory { scratch = scratch; stack = t.stack } in
       let same : t.r3 + at ≡ address_of Scratch + place = omega (arith, e, is) in
       subst (λ (n : Memory). ComesTo w (record (between w (slot + 1) t scratch group frames) { memory = n }))
       (ap (λ (k : ℕ). stored m (k % 2 ^ 64) DoubleWord t.r4) same ∙ scratch_stored_is m w.short place inside t.r4)
@@ -189,7 +189,7 @@ module _ (w : Course) (group : List ℕ) (frames : ℕ) where
     rank_comes : (sign : Sign) (slot word : ℕ) (t : Temporaries) → Stands w.program slot (rank_code sign)
         → At w scratch group frames slot (record t { r5 = word })
         → At w scratch group frames (slot + slot_count (rank_code sign)) (record t { r4 = after_rank sign t.r4; r5 = rank_word sign word })
-    rank_comes Unsigned slot word t stands r = let e : slot ≡ slot + 0 = omega arith in moved w scratch group frames _ _ _ e r
+    rank_comes Unsigned slot word t stands r = let e : slot ≡ slot + 0 = omega arith in moved w scratch group frames _ _ (record t { r5 = word }) e r
     rank_comes Signed slot word t stands r =
         let a : At w scratch group frames (slot + 2) (record t { r4 = 2 ^ 63; r5 = word })
         = goes w.program w.limit w.fuel w.start w.exits (between w slot (record t { r5 = word }) scratch group frames) (LoadImmediate 4 (2 ^ 63)) stands.0 refl r in
@@ -197,7 +197,7 @@ module _ (w : Course) (group : List ℕ) (frames : ℕ) where
         = goes w.program w.limit w.fuel w.start w.exits (between w (slot + 2) (record t { r4 = 2 ^ 63; r5 = word }) scratch group frames)
         (Arithmetic Bits64 Add 5 (Register 4)) stands.1.0 refl a in
         let e : slot + 2 + 1 ≡ slot + 3 = omega arith in
-        moved w scratch group frames _ _ _ e b
+        moved w scratch group frames _ _ (record t { r4 = 2 ^ 63; r5 = (word + 2 ^ 63) % 2 ^ 64 }) e b
 
     ranked_comes : (f : Field) (slot byte size : ℕ) (t : Temporaries) → IsField size f → byte + size ≤ length w.memory.block
         → Stands w.program slot (ranked_code byte f) → At w scratch group frames slot t
@@ -213,7 +213,7 @@ module _ (w : Course) (group : List ℕ) (frames : ℕ) where
         let e : slot + slot_count load + slot_count rank ≡ slot + slot_count (load ++ rank) = omega (arith, slot_count-append load rank) in
         let same = rank_word_is f.sign (value_of f bytes) (value_is_number f bytes (record_bytes size byte block w.bytes)) in
         subst (λ x. At w scratch group frames (slot + slot_count (load ++ rank)) (record t { r4 = after_rank f.sign t.r4; r5 = x })) same
-        (moved w scratch group frames _ _ _ e b)
+        (moved w scratch group frames _ _ (record t { r4 = after_rank f.sign t.r4; r5 = rank_word f.sign (word_in f bytes) }) e b)
 
     taken_comes : (y : Tally) (slot byte size : ℕ) (t : Temporaries) → IsTally size y → byte + size ≤ length w.memory.block
         → Stands w.program slot (taken_code byte y) → At w scratch group frames slot t
@@ -239,7 +239,7 @@ module _ (w : Course) (group : List ℕ) (frames : ℕ) where
         (Arithmetic Bits64 Add 5 (Immediate (neg_ℤ (pos 1)))) later.1.0 refl b in
         let e : n + 1 + 1 ≡ slot + slot_count (load ++ turned) = omega (arith, slot_count-append load turned) in
         subst (λ v. At w scratch group frames (slot + slot_count (load ++ turned)) (record u { r5 = v }))
-        (left x (rank_in_fits f bytes (record_bytes size byte block w.bytes))) (moved w scratch group frames _ _ _ e c)
+        (left x (rank_in_fits f bytes (record_bytes size byte block w.bytes))) (moved w scratch group frames _ _ (record u { r5 = ((2 ^ 64 - x) % 2 ^ 64 + immediate_word (neg_ℤ (pos 1))) % 2 ^ 64 }) e c)
 
     greater : (b : Bool) (slot v x : ℕ) (t : Temporaries) → t.r4 ≡ v → t.r5 ≡ x → nat_le x v ≡ b
         → instruction_at w.program (slot + 1) ≡ Some (Arithmetic Bits64 Move 4 (Register 5))
@@ -325,8 +325,8 @@ module _ (w : Course) (scratch group : List ℕ) (frames : ℕ) where
       → Comes w scratch group frames slot
       → Comes w scratch (group ++ frame (take size (drop at w.memory.block))) (frames + 1) (slot + 4)
   emit_comes slot at size inside stands come =
-      let m = record w.memory { scratch = scratch } in
       let t = come.t in
+      let m = record w.memory { scratch = scratch; stack = t.stack } in
       let w_at : immediate_word (pos at) ≡ at = mod-eq_of_lt (omega (arith, w.short)) in
       let w_size : immediate_word (pos size) ≡ size = mod-eq_of_lt (omega (arith, w.short)) in
       let first : At w scratch group frames (slot + 1) (record t { r1 = address_of Block })
@@ -341,7 +341,7 @@ module _ (w : Course) (scratch group : List ℕ) (frames : ℕ) where
       = goes w.program w.limit w.fuel w.start w.exits (between w (slot + 1 + 1) u scratch group frames)
       (Arithmetic Bits64 Move 2 (Immediate (pos size))) stands.1.1.0 refl second in
       let third = subst (λ (x : ℕ). At w scratch group frames (slot + 1 + 1 + 1) (record u { r2 = x })) w_size raw2 in
-      let zeros : Temporaries = record { r1 = 0; r2 = 0; r3 = 0; r4 = 0; r5 = 0 } in
+      let zeros = record t { r1 = 0; r2 = 0; r3 = 0; r4 = 0; r5 = 0 } in
       let last : At w scratch (group ++ frame (bytes_at m (address_of Block + at) size)) (frames + 1) (slot + 1 + 1 + 1 + 1) zeros
       = goes w.program w.limit w.fuel w.start w.exits (between w (slot + 1 + 1 + 1) (record u { r2 = size }) scratch group frames)
       (Call EMIT) stands.1.1.1.0 refl third in

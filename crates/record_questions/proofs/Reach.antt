@@ -21,7 +21,8 @@ use Rattle.record_questions.specs.declared.question.Tally.{Tally}
 use Rattle.record_questions.specs.declared.question.Tally.TheVariants.{Count, Sum, Least, Greatest}
 use Rattle.record_questions.specs.declared.question.Grouping.{Grouping}
 use Rattle.record_questions.specs.declared.question.Question.{Question}
-use Rattle.record_questions.specs.Asked.{AreTallies, IsField, IsGrouping, IsOperand, IsPredicate, IsQuestion, IsTally}
+use Rattle.record_questions.specs.declared.question.ByteRange.{ByteRange}
+use Rattle.record_questions.specs.Asked.{AreRanges, AreTallies, IsField, IsGrouping, IsOperand, IsPredicate, IsQuestion, IsRange, IsTally}
 use Rattle.record_questions.specs.Code.{chunk_operand}
 use Rattle.record_questions.specs.Tallies.{groups}
 
@@ -65,6 +66,13 @@ tallies_in : (ts : List Tally) (size n : ℕ) → size ≤ n → AreTallies size
 tallies_in [] size n le is = is
 tallies_in (t ∷ ts) size n le is = (tally_in t size n le is.0, tallies_in ts size n le is.1)
 
+range_in : (range : ByteRange) (size n : ℕ) → size ≤ n → IsRange size range → IsRange n range
+range_in range size n le is = (is.0, omega (arith, is.1, le))
+
+ranges_in : (ranges : List ByteRange) (size n : ℕ) → size ≤ n → AreRanges size ranges → AreRanges n ranges
+ranges_in [] size n le are = are
+ranges_in (range ∷ ranges) size n le are = (range_in range size n le are.0, ranges_in ranges size n le are.1)
+
 -- ---- records of a block
 
 largest : LARGEST_BLOCK ≡ 2 ^ 14
@@ -95,6 +103,9 @@ few_of (Some by) size n is few =
 
 pub tallies_few : (q : Question) (block : ℕ) → IsQuestion block q → 8 * length q.tallies.items ≤ SCRATCH_BYTES
 tallies_few q block is = few_of q.by q.size (length q.tallies.items) is.by is.few_tallies
+
+pub ranges_near : (ranges : List ByteRange) (byte size : ℕ) → byte + size ≤ LARGEST_BLOCK → AreRanges size ranges → AreRanges (2 ^ 15 - byte) ranges
+ranges_near ranges byte size inside are = ranges_in ranges size (2 ^ 15 - byte) (left byte size inside) are
 
 pub record_inside : (q : Question) (i : ℕ) → IsQuestion LARGEST_BLOCK q → i < q.count → q.first + i * q.size + q.size ≤ LARGEST_BLOCK
 record_inside q i is less =

@@ -1,7 +1,7 @@
 -- What the program of a question does with a block: the records one by one, from the start to EXIT.
-use Rattle.std.proofs.Common.{ℕ, zero, suc, pos, ◌+◌, ◌*◌, ◌≤◌, ◌≡◌, Bool, true, false, cond, List, [], ◌∷◌, ◌++◌, length, take, drop, Option, Some, None, refl, sym, ap, ◌∙◌, subst, arith, append_assoc, length-append}
+use Rattle.std.proofs.Common.{ℕ, zero, suc, pos, ◌+◌, ◌*◌, ◌≤◌, ◌≡◌, Bool, true, false, cond, List, [], ◌∷◌, ◌++◌, length, take, drop, replicate, refl, sym, ap, ◌∙◌, subst, arith, append_assoc, length-append}
 use Rattle.std.proofs.lemmas.Grind.{flat_map-append}
-use Rattle.std.proofs.lemmas.List.{append-nil, drop-drop, map-append}
+use Rattle.std.proofs.lemmas.List.{append-nil, drop-drop, length-replicate, map-append}
 use Rattle.std.specs.Prelude.{filter}
 use Rattle.common_definitions.specs.Bytes.{pieces}
 use Rattle.instruction_set.specs.Program.{instruction_count}
@@ -23,6 +23,7 @@ use Rattle.record_questions.proofs.Accesses.{context_loaded_is, cut_is}
 use Rattle.record_questions.proofs.Comparisons.{skipped, skips}
 use Rattle.record_questions.proofs.Course.{Course, Temporaries, between}
 use Rattle.record_questions.proofs.Groups.{grouped_comes, grouped_slots_are}
+use Rattle.record_questions.proofs.Stacking.{emitted_slots_are, stacked_comes}
 use Rattle.record_questions.proofs.Matches.{emit_comes}
 use Rattle.record_questions.proofs.Numbers.{word_field_fits}
 use Rattle.record_questions.proofs.Reaching.{Reaches, begins, ends, goes}
@@ -30,10 +31,10 @@ use Rattle.record_questions.proofs.Standing.{Stands, back_stands, front_stands, 
 use Rattle.record_questions.proofs.Tests.{Comes, at_slot, test_comes}
 use Rattle.record_questions.specs.declared.question.ByteRange.{ByteRange}
 use Rattle.record_questions.specs.declared.question.Question.{Question}
-use Rattle.record_questions.specs.Asked.{IsQuestion, IsRange}
-use Rattle.record_questions.specs.Code.{match_code, match_slots, question_code, question_program, range_code, range_slots, record_code, records_code, slot_count, grouped_code, test_code}
+use Rattle.record_questions.specs.Asked.{AreRanges, IsQuestion, stacked_bytes}
+use Rattle.record_questions.specs.Code.{match_code, match_slots, question_code, question_program, emitted_code, record_code, records_code, slot_count, grouped_code, test_code}
 use Rattle.record_questions.specs.Laws.{Answers, AnswersBlocks, argument_in}
-use Rattle.record_questions.specs.Question.{answer, cut, cuts, matches, matching}
+use Rattle.record_questions.specs.Question.{answer, bytes_in, cut, cuts, matches, matching}
 use Rattle.record_questions.specs.Tallies.{group_of, tallied_in, tallied_of}
 
 -- those of one record that match: the record or none
@@ -44,54 +45,54 @@ one_first : (b : Bool) (r : List ℕ) (kept : List (List ℕ)) → cond b (r ∷
 one_first true r kept = refl
 one_first false r kept = refl
 
-pub cuts_both : (range : Option ByteRange) (xs ys : List (List ℕ)) → cuts range (xs ++ ys) ≡ cuts range xs ++ cuts range ys
-cuts_both None xs ys = refl
-cuts_both (Some range) xs ys = map-append (cut range) xs ys
+pub cuts_both : (ranges : List ByteRange) (xs ys : List (List ℕ)) → cuts ranges (xs ++ ys) ≡ cuts ranges xs ++ cuts ranges ys
+cuts_both [] xs ys = refl
+cuts_both (range ∷ ranges) xs ys = map-append (cut (range ∷ ranges)) xs ys
 
-cuts_none : (range : Option ByteRange) → cuts range [] ≡ []
-cuts_none None = refl
-cuts_none (Some range) = refl
+cuts_none : (ranges : List ByteRange) → cuts ranges [] ≡ []
+cuts_none [] = refl
+cuts_none (range ∷ ranges) = refl
 
 pub tallied_both : (q : Question) (xs ys : List (List ℕ)) (scratch : List ℕ)
     → tallied_of q (xs ++ ys) scratch ≡ tallied_of q ys (tallied_of q xs scratch)
 tallied_both q [] ys scratch = refl
 tallied_both q (x ∷ xs) ys scratch = tallied_both q xs ys (tallied_in q.tallies.items (group_of q.by x) x scratch)
 
-range_slots_are : (byte : ℕ) (range : Option ByteRange) → slot_count (range_code byte range) ≡ range_slots range
-range_slots_are byte None = refl
-range_slots_are byte (Some range) = refl
-
 pub match_slots_are : (q : Question) (byte : ℕ) → slot_count (match_code q byte) ≡ match_slots q
 match_slots_are q byte =
     let a = grouped_slots_are byte q.by q.tallies.items in
-    let b = range_slots_are byte q.emitted in
-    omega (arith, a, b, slot_count-append (grouped_code byte q.by q.tallies.items) (range_code byte q.emitted))
+    let b = emitted_slots_are byte q.emitted.items in
+    omega (arith, a, b, slot_count-append (grouped_code byte q.by q.tallies.items) (emitted_code byte q.emitted.items))
 
 module _ (w : Course) (q : Question) (is : IsQuestion (length w.memory.block) q) where
   -- the block run comes to this slot, and these records that match are answered, after what was there before
   abbrev Answered : ℕ → List ℕ → List ℕ → ℕ → List (List ℕ) → Type 0
   Answered slot scratch group frames found =
-      Comes w (tallied_of q found scratch) (group ++ interface.frames (cuts q.emitted found)) (frames + length (cuts q.emitted found)) slot
+      Comes w (tallied_of q found scratch) (group ++ interface.frames (cuts q.emitted.items found)) (frames + length (cuts q.emitted.items found)) slot
 
-  range_comes : (range : Option ByteRange) (slot byte : ℕ) (scratch group : List ℕ) (frames : ℕ)
-      → IsRange q.size range → byte + q.size ≤ length w.memory.block
-      → Stands w.program slot (range_code byte range) → Comes w scratch group frames slot
+  emitted_comes : (ranges : List ByteRange) (slot byte : ℕ) (scratch group : List ℕ) (frames : ℕ)
+      → AreRanges q.size ranges → stacked_bytes ranges ≤ STACK_BYTES → byte + q.size ≤ length w.memory.block
+      → Stands w.program slot (emitted_code byte ranges) → Comes w scratch group frames slot
       → let found = take q.size (drop byte w.memory.block) ∷ [] in
-      Comes w scratch (group ++ interface.frames (cuts range found)) (frames + length (cuts range found)) (slot + slot_count (range_code byte range))
-  range_comes None slot byte scratch group frames inside fits stands come =
+      Comes w scratch (group ++ interface.frames (cuts ranges found)) (frames + length (cuts ranges found)) (slot + slot_count (emitted_code byte ranges))
+  emitted_comes [] slot byte scratch group frames are room fits stands come =
       let e : slot ≡ slot + 0 = omega arith in
       let f : frames + 0 ≡ frames = omega arith in
       rw (append-nil group, f) (at_slot w scratch group frames _ _ e come)
-  range_comes (Some range) slot byte scratch group frames inside fits stands come =
+  emitted_comes (range ∷ []) slot byte scratch group frames are room fits stands come =
       let r = take q.size (drop byte w.memory.block) in
-      let same = cut_is w.memory.block byte range.offset range.size q.size inside.1 in
-      rw (append-nil (frame (cut range r)), same)
-      (emit_comes w scratch group frames slot (byte + range.offset) range.size (omega (arith, inside.1)) stands come)
+      let same = cut_is w.memory.block byte range.offset range.size q.size are.0.1 in
+      rw (append-nil (bytes_in range r), append-nil (frame (bytes_in range r)), same)
+      (emit_comes w scratch group frames slot (byte + range.offset) range.size (omega (arith, are.0.1)) stands come)
+  emitted_comes (first ∷ second ∷ more) slot byte scratch group frames are room fits stands come =
+      let ranges = first ∷ second ∷ more in
+      rw (append-nil (frame (cut ranges (take q.size (drop byte w.memory.block)))))
+      (stacked_comes w scratch group frames ranges slot byte q.size room are fits stands come)
 
   nothing_found : (slot : ℕ) (scratch group : List ℕ) (frames : ℕ) → Comes w scratch group frames slot → Answered slot scratch group frames []
   nothing_found slot scratch group frames come =
       let f : frames + 0 ≡ frames = omega arith in
-      rw (cuts_none q.emitted, append-nil group, f) come
+      rw (cuts_none q.emitted.items, append-nil group, f) come
 
   matched : (b : Bool) (slot long : ℕ) (scratch group : List ℕ) (frames : ℕ) (r : List ℕ)
       → Comes w scratch group frames (slot + skipped (skips true b) long)
@@ -111,7 +112,7 @@ module _ (w : Course) (q : Question) (is : IsQuestion (length w.memory.block) q)
       let test = test_code byte true q.wanted (match_slots q) in
       let r = take q.size (drop byte w.memory.block) in
       let ts = grouped_code byte q.by q.tallies.items in
-      let cs = range_code byte q.emitted in
+      let cs = emitted_code byte q.emitted.items in
       let tested = test_comes w scratch group frames q.wanted true slot byte q.size (match_slots q) is.wanted fits (front_stands w.program slot test act stands) come in
       let acts = back_stands w.program slot test act stands in
       let slots = match_slots_are q byte in
@@ -120,7 +121,7 @@ module _ (w : Course) (q : Question) (is : IsQuestion (length w.memory.block) q)
       at_slot w _ _ _ _ _ e
       (matched (matches w.argument q.wanted r) (slot + slot_count test) (match_slots q) scratch group frames r tested
       (λ there. at_slot w _ _ _ _ _ f
-      (range_comes q.emitted (slot + slot_count test + slot_count ts) byte (tallied_in q.tallies.items (group_of q.by r) r scratch) group frames is.emitted fits
+      (emitted_comes q.emitted.items (slot + slot_count test + slot_count ts) byte (tallied_in q.tallies.items (group_of q.by r) r scratch) group frames is.emitted is.stacked fits
       (back_stands w.program (slot + slot_count test) ts cs acts)
       (grouped_comes w group frames byte q.size q.tallies.items scratch is.tallies fits q.by (slot + slot_count test) is.by is.few_tallies
       (front_stands w.program (slot + slot_count test) ts cs acts) there))))
@@ -147,22 +148,30 @@ module _ (w : Course) (q : Question) (is : IsQuestion (length w.memory.block) q)
       rw whole (both xs ys (slot + slot_count (a ++ b)) (at_slot w _ _ _ _ _ e rest))
     where
       both : (xs ys : List (List ℕ)) (slot : ℕ)
-          → Answered slot (tallied_of q xs scratch) (group ++ interface.frames (cuts q.emitted xs)) (frames + length (cuts q.emitted xs)) ys
+          → Answered slot (tallied_of q xs scratch) (group ++ interface.frames (cuts q.emitted.items xs)) (frames + length (cuts q.emitted.items xs)) ys
           → Answered slot scratch group frames (xs ++ ys)
       both xs ys slot come =
-          let these = cuts q.emitted xs in
-          let those = cuts q.emitted ys in
+          let these = cuts q.emitted.items xs in
+          let those = cuts q.emitted.items ys in
           let g : group ++ interface.frames (these ++ those) ≡ (group ++ interface.frames these) ++ interface.frames those
           = ap (λ (bytes : List ℕ). group ++ bytes) (flat_map-append frame these those)
           ∙ sym (append_assoc group (interface.frames these) (interface.frames those)) in
           let f : frames + length (these ++ those) ≡ frames + length these + length those = omega (arith, length-append these those) in
-          rw (cuts_both q.emitted xs ys, g, f, tallied_both q xs ys scratch) come
+          rw (cuts_both q.emitted.items xs ys, g, f, tallied_both q xs ys scratch) come
 
 -- ---- the whole program
 
--- the registers at the start, but R8
+-- the registers at the start, but R8, and the stack
 abbrev at_first : Temporaries
-at_first = record { r1 = address_of areas.Context; r2 = address_of areas.Block; r3 = address_of areas.Scratch; r4 = 0; r5 = 0 }
+at_first = record {
+  r1 = address_of areas.Context;
+  r2 = address_of areas.Block;
+  r3 = address_of areas.Scratch;
+  r4 = 0;
+  r5 = 0;
+  stack = replicate STACK_BYTES 0;
+  whole = length-replicate {A = ℕ} STACK_BYTES 0;
+}
 
 pub answers_from : (q : Question) (limit fuel : ℕ) (bytes context scratch : List ℕ) → IsQuestion (length bytes) q
     → IsMemory (at_start bytes context scratch).memory

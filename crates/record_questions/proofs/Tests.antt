@@ -14,7 +14,7 @@ use Rattle.program_meaning.specs.Effect.{operand}
 use Rattle.program_meaning.specs.Step.{slot_number}
 use Rattle.program_meaning.specs.Word.{is_taken}
 use Rattle.record_questions.proofs.Comparisons.{skipped, skips, taken_is, twice}
-use Rattle.record_questions.proofs.Course.{At, Course, Fourth, Temporaries, between, field_comes, moved, operand_comes, registers_of}
+use Rattle.record_questions.proofs.Course.{At, Course, Fourth, Temporaries, between, field_comes, holding, moved, operand_comes, registers_of}
 use Rattle.record_questions.proofs.Numbers.{argument_is_number, number_fits, record_bytes, signed_is_number, value_is_number}
 use Rattle.record_questions.proofs.Reaching.{goes}
 use Rattle.record_questions.proofs.Standing.{Stands, back_stands, front_stands, slot_count-append}
@@ -34,6 +34,7 @@ use Rattle.record_questions.specs.declared.question.Predicate.TheVariants.{Compa
 use Rattle.record_questions.specs.Asked.{IsNumber, IsOperand, IsPredicate}
 use Rattle.record_questions.specs.Code.{bytes_code, bytes_slots, chunk_field, chunk_operand, chunk_sizes, chunks_code, chunks_slots, comparison_code, comparison_slots, extension_of, field_code, field_slots, is_immediate, jump_of, operand_code, operand_slots, over, slot_count, source_of, some_slots, swap_code, extension_code, swap_of, test_code, test_slots}
 use Rattle.record_questions.specs.Question.{compares, matches, operand_value, value_of}
+use Rattle.record_questions.specs.Tallies.{word_in}
 use Rattle.instruction_set.specs.declared.operation.SignExtension.{SignExtension}
 use Rattle.instruction_set.specs.declared.operation.SwapSize.{SwapSize}
 
@@ -173,7 +174,7 @@ module _ (w : Course) (scratch group : List ℕ) (frames : ℕ) where
       let y = operand_value w.argument o r in
       let later = back_stands w.program slot a (b ++ jump ∷ []) stands in
       let loaded = field_comes w scratch group frames Fourth f slot byte size come.t is.0 fits (front_stands w.program slot a (b ++ jump ∷ []) stands) come.reached in
-      let ready = operand_comes w scratch group frames o f (slot + slot_count a) byte size _ is.1 fits
+      let ready = operand_comes w scratch group frames o f (slot + slot_count a) byte size (holding Fourth (word_in f r) come.t) is.1 fits
       (front_stands w.program (slot + slot_count a) b (jump ∷ []) later) loaded in
       let taken = taken_is f.sign on c x y (value_is_number f r bytes) (operand_is_number o f size r is.1 bytes) in
       let jumped = branch_comes (jump_of f.sign on c) (source_of o) (cast_unsigned w64 x) (cast_unsigned w64 y) (skips on (compares c x y))

@@ -1,7 +1,7 @@
 -- Which questions can be asked.
 use Rattle.std.specs.Prelude.{ℕ, ℤ, pos, neg_ℤ, ◌≡◌, ◌≤◌, ◌≤ℤ◌, ◌<ℤ◌, ◌+◌, ◌*◌, ◌^◌, List, [], ◌∷◌, length, Option, Some, None, ⊤}
 use Rattle.common_definitions.specs.Bytes.{AreBytes}
-use Rattle.program_interface.specs.declared.area.TheConstants.{SCRATCH_BYTES}
+use Rattle.program_interface.specs.declared.area.TheConstants.{SCRATCH_BYTES, STACK_BYTES}
 use Rattle.instruction_set.specs.Instruction.{size_of}
 use Rattle.record_questions.specs.declared.question.Sign.{Sign}
 use Rattle.record_questions.specs.declared.question.Sign.TheVariants.{Unsigned, Signed}
@@ -41,9 +41,23 @@ IsPredicate bytes (Or' x p y q) = IsPredicate bytes p × IsPredicate bytes q
 IsPredicate bytes (Not' x p) = IsPredicate bytes p
 
 -- some bytes of a record of so many
-abbrev pub IsRange : ℕ → Option ByteRange → Type 0
-IsRange bytes None = ⊤
-IsRange bytes (Some range) = (1 ≤ range.size) × (range.offset + range.size ≤ bytes)
+abbrev pub IsRange : ℕ → ByteRange → Type 0
+IsRange bytes range = (1 ≤ range.size) × (range.offset + range.size ≤ bytes)
+
+abbrev pub AreRanges : ℕ → List ByteRange → Type 0
+AreRanges bytes [] = ⊤
+AreRanges bytes (range ∷ ranges) = IsRange bytes range × AreRanges bytes ranges
+
+-- how many bytes ranges have
+abbrev pub emitted_bytes : List ByteRange → ℕ
+emitted_bytes [] = 0
+emitted_bytes (range ∷ ranges) = range.size + emitted_bytes ranges
+
+-- how many bytes of the stack they take: none where there is one range, since that is emitted from the block
+abbrev pub stacked_bytes : List ByteRange → ℕ
+stacked_bytes [] = 0
+stacked_bytes (range ∷ []) = 0
+stacked_bytes (first ∷ second ∷ more) = emitted_bytes (first ∷ second ∷ more)
 
 -- a tally of a record of so many bytes
 abbrev pub IsTally : ℕ → Tally → Type 0
@@ -63,13 +77,14 @@ IsGrouping bytes (Some by) =
     IsField bytes by.field × (by.field.sign ≡ Unsigned) × (1 ≤ by.values) × (by.first + by.values ≤ 2 ^ 16)
 
 -- a question that can be asked of blocks of so many bytes: it has records, of at least a byte, they lie in a block, what it looks at
--- lies in a record, and each tally of each group has a word of scratch
+-- lies in a record, several ranges fit the stack, and each tally of each group has a word of scratch
 pub record IsQuestion (block : ℕ) (q : Question) : Type 0 where
   pub some_bytes : 1 ≤ q.size
   pub some_records : 1 ≤ q.count
   pub inside : q.first + q.count * q.size ≤ block
   pub wanted : IsPredicate q.size q.wanted
-  pub emitted : IsRange q.size q.emitted
+  pub emitted : AreRanges q.size q.emitted.items
+  pub stacked : stacked_bytes q.emitted.items ≤ STACK_BYTES
   pub tallies : AreTallies q.size q.tallies.items
   pub by : IsGrouping q.size q.by
   pub few_tallies : 8 * words_of q ≤ SCRATCH_BYTES

@@ -20,6 +20,7 @@ use Rattle.instruction_set.specs.declared.operation.SwapSize.{SwapSize}
 use Rattle.instruction_set.specs.declared.operation.SwapSize.TheVariants as kept
 use Rattle.instruction_set.specs.declared.operation.Width.TheVariants.{Bits64}
 use Rattle.program_interface.specs.declared.frame.TheConstants.{EMIT}
+use Rattle.record_questions.specs.Asked.{emitted_bytes}
 use Rattle.record_questions.specs.declared.question.Sign.{Sign}
 use Rattle.record_questions.specs.declared.question.Sign.TheVariants.{Unsigned, Signed}
 use Rattle.record_questions.specs.declared.question.ByteOrder.{ByteOrder}
@@ -296,20 +297,51 @@ emit_code at size =
     Arithmetic Bits64 Move 1 (Register 6) ∷ Arithmetic Bits64 Add 1 (Immediate (pos at))
     ∷ Arithmetic Bits64 Move 2 (Immediate (pos size)) ∷ Call EMIT ∷ []
 
--- emits the range of the record at a byte of the block, if there is one
-abbrev pub range_code : (byte : ℕ) → Option ByteRange → List Instruction
-range_code byte None = []
-range_code byte (Some range) = emit_code (byte + range.offset) range.size
+-- copies a chunk from a byte of the block on to the stack, where R10 has its end: so many bytes before that
+abbrev pub copy_code : (from left : ℕ) → Size → List Instruction
+copy_code from left size = Load size 4 6 (pos from) ∷ StoreRegister size 10 4 (neg_ℤ (pos left)) ∷ []
 
-abbrev pub range_slots : Option ByteRange → ℕ
-range_slots None = 0
-range_slots (Some range) = 4
+-- copies chunks, one after another
+abbrev pub copies_code : (from left : ℕ) → List Size → List Instruction
+copies_code from left [] = []
+copies_code from left (s ∷ ss) = copy_code from left s ++ copies_code (from + size_of s) (left - size_of s) ss
+
+-- copies ranges of the record at a byte of the block, one after another
+abbrev pub ranges_code : (byte left : ℕ) → List ByteRange → List Instruction
+ranges_code byte left [] = []
+ranges_code byte left (range ∷ ranges) =
+    copies_code (byte + range.offset) left (chunk_sizes range.size) ++ ranges_code byte (left - range.size) ranges
+
+-- emits so many bytes at the end of the stack
+abbrev pub emit_stacked_code : ℕ → List Instruction
+emit_stacked_code size =
+    Arithmetic Bits64 Move 1 (Register 10) ∷ Arithmetic Bits64 Add 1 (Immediate (neg_ℤ (pos size)))
+    ∷ Arithmetic Bits64 Move 2 (Immediate (pos size)) ∷ Call EMIT ∷ []
+
+-- puts ranges of the record at a byte of the block together on the stack, and emits them
+abbrev pub stacked_code : (byte : ℕ) → List ByteRange → List Instruction
+stacked_code byte ranges = ranges_code byte (emitted_bytes ranges) ranges ++ emit_stacked_code (emitted_bytes ranges)
+
+-- emits ranges of the record at a byte of the block in one frame, a single one from where it is
+abbrev pub emitted_code : (byte : ℕ) → List ByteRange → List Instruction
+emitted_code byte [] = []
+emitted_code byte (range ∷ []) = emit_code (byte + range.offset) range.size
+emitted_code byte (first ∷ second ∷ more) = stacked_code byte (first ∷ second ∷ more)
+
+abbrev pub ranges_slots : List ByteRange → ℕ
+ranges_slots [] = 0
+ranges_slots (range ∷ ranges) = 2 * length (chunk_sizes range.size) + ranges_slots ranges
+
+abbrev pub emitted_slots : List ByteRange → ℕ
+emitted_slots [] = 0
+emitted_slots (range ∷ []) = 4
+emitted_slots (first ∷ second ∷ more) = ranges_slots (first ∷ second ∷ more) + 4
 
 abbrev pub match_code : Question → (byte : ℕ) → List Instruction
-match_code q byte = grouped_code byte q.by q.tallies.items ++ range_code byte q.emitted
+match_code q byte = grouped_code byte q.by q.tallies.items ++ emitted_code byte q.emitted.items
 
 abbrev pub match_slots : Question → ℕ
-match_slots q = grouped_slots q.by q.tallies.items + range_slots q.emitted
+match_slots q = grouped_slots q.by q.tallies.items + emitted_slots q.emitted.items
 
 -- ---- records
 

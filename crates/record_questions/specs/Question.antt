@@ -1,5 +1,6 @@
 -- What a question about records of one length means.
-use Rattle.std.specs.Prelude.{ℕ, ℤ, pos, Bool, ◌&&◌, ◌||◌, not, int_lt, int_le, length, List, [], Option, Some, None, map, filter, take, drop}
+use Rattle.std.specs.Prelude.{ℕ, ℤ, pos, Bool, ◌&&◌, ◌||◌, not, int_lt, int_le, length, List, [], ◌∷◌, map, filter, take, drop}
+use Rattle.std.specs.List.{flat_map}
 use Rattle.std.specs.Ordering.{int_eq}
 use Rattle.std.specs.Str.{bytes_eq}
 use Rattle.byteorder.specs.Endian.{big_number, little_number, twos_complement}
@@ -69,14 +70,18 @@ abbrev pub matching : Question → ℕ → List ℕ → List (List ℕ)
 matching q argument block = filter (matches argument q.wanted) (records_in q block)
 
 -- the bytes of a record in a range
-abbrev pub cut : ByteRange → List ℕ → List ℕ
-cut range r = take range.size (drop range.offset r)
+abbrev pub bytes_in : ByteRange → List ℕ → List ℕ
+bytes_in range r = take range.size (drop range.offset r)
 
--- what is emitted of these records
-abbrev pub cuts : Option ByteRange → List (List ℕ) → List (List ℕ)
-cuts None records = []
-cuts (Some range) records = map (cut range) records
+-- its bytes in these ranges, one range after another
+abbrev pub cut : List ByteRange → List ℕ → List ℕ
+cut ranges r = flat_map (λ range. bytes_in range r) ranges
+
+-- what is emitted of these records: nothing, where no range is
+abbrev pub cuts : List ByteRange → List (List ℕ) → List (List ℕ)
+cuts [] records = []
+cuts (range ∷ ranges) records = map (cut (range ∷ ranges)) records
 
 -- the answer of a block: what is emitted of its records that match, in order
 abbrev pub answer : Question → ℕ → List ℕ → List (List ℕ)
-answer q argument block = cuts q.emitted (matching q argument block)
+answer q argument block = cuts q.emitted.items (matching q argument block)

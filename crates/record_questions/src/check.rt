@@ -3,17 +3,18 @@
 ghost use Rattle.std.specs.Prelude.{◌≡◌, ◌≤◌, ◌+◌, IsTrue, ◌↔◌, length};
 ghost use Rattle.common_definitions.specs.Bytes.{AreBytes};
 ghost use Rattle.instruction_set.specs.Instruction.{size_of};
-ghost use Rattle.record_questions.specs.Asked.{AreTallies, IsField, IsGrouping, IsNumber, IsOperand, IsPredicate, IsQuestion, IsRange, IsTally};
+ghost use Rattle.record_questions.specs.Asked.{AreRanges, AreTallies, IsField, IsGrouping, IsNumber, IsOperand, IsPredicate, IsQuestion, IsRange, IsTally, emitted_bytes, stacked_bytes};
 ghost use Rattle.record_questions.specs.Code.{counted};
 ghost use Rattle.record_questions.specs.Tallies.{groups, words_of};
 
 use crate::question::{ByteRange, Field, Grouping, Operand, Predicate, Question, Sign, Tally};
 use instruction_set::Size;
-use program_interface::SCRATCH_BYTES;
+use program_interface::{SCRATCH_BYTES, STACK_BYTES};
 
 /// `Size::bytes` as a `u16`, and that it is small, so that sums with it fit.
 pub(crate) fn bytes_of(size: Size) -> u16
     ensures value { result ≡ size_of size }
+    ensures some { 1 ≤ result }
     ensures few { result ≤ 8 }
 {
     match size {
@@ -80,14 +81,40 @@ fn is_predicate(bytes: u16, predicate: &Predicate) -> bool
 }
 
 /// Does a range lie in a record of so many bytes?
-fn is_range(bytes: u16, range: Option<ByteRange>) -> bool
+fn is_range(bytes: u16, range: ByteRange) -> bool
     ensures { IsTrue result ↔ IsRange bytes range }
 {
-    match range {
-        None => true,
-        Some(range) => {
-            1 <= range.size && u32::from(range.offset) + u32::from(range.size) <= u32::from(bytes)
-        }
+    1 <= range.size && u32::from(range.offset) + u32::from(range.size) <= u32::from(bytes)
+}
+
+/// Does each of these lie in a record of so many bytes?
+fn are_ranges(bytes: u16, ranges: &[ByteRange]) -> bool
+    ensures { IsTrue result ↔ AreRanges bytes ranges.now }
+{
+    match ranges {
+        [] => true,
+        [first, rest @ ..] => is_range(bytes, *first) && are_ranges(bytes, rest),
+    }
+}
+
+/// How many bytes ranges have.
+pub fn emitted_bytes(ranges: &[ByteRange]) -> u64
+    ensures { result ≡ counted (emitted_bytes ranges.now) }
+{
+    match ranges {
+        [] => 0,
+        [first, rest @ ..] => u64::from(first.size).saturating_add(emitted_bytes(rest)),
+    }
+}
+
+/// How many bytes of the stack ranges take: none where there is one, since that is emitted from the block.
+pub fn stacked_bytes(ranges: &[ByteRange]) -> u64
+    ensures { result ≡ counted (stacked_bytes ranges.now) }
+{
+    match ranges {
+        [] => 0,
+        [_] => 0,
+        _ => emitted_bytes(ranges),
     }
 }
 
@@ -151,7 +178,8 @@ pub fn is_question(block: u32, question: &Question) -> bool
         && 1 <= question.count
         && u32::from(question.first) + u32::from(question.count) * u32::from(question.size) <= block
         && is_predicate(question.size, &question.wanted)
-        && is_range(question.size, question.emitted)
+        && are_ranges(question.size, &question.emitted)
+        && stacked_bytes(&question.emitted) <= STACK_BYTES as u64
         && are_tallies(question.size, &question.tallies)
         && is_grouping(question.size, question.by)
         && words_of(question) <= SCRATCH_BYTES / 8

@@ -15,7 +15,7 @@ use instruction_set::{Instruction, Size};
 use std::alloc::AllocError;
 
 /// The widest chunk of so many bytes.
-fn chunk_size(count: usize) -> Size
+pub(crate) fn chunk_size(count: usize) -> Size
     requires { 1 ≤ count }
     ensures value { result ≡ chunk_size count }
     ensures inside { size_of result ≤ count }

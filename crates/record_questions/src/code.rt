@@ -4,56 +4,24 @@ ghost use Rattle.std.specs.Prelude.{◌≡◌, ◌<◌, ◌≤◌, ◌++◌, ◌
 ghost use Rattle.program_interface.specs.declared.TheConstants.{MOST_SLOTS};
 ghost use Rattle.program_interface.specs.declared.block_size.TheConstants.{LARGEST_BLOCK};
 ghost use Rattle.record_questions.specs.Asked.{IsQuestion};
-ghost use Rattle.record_questions.specs.Code.{counted, emit_code, match_code, match_slots, question_code, question_program, range_code, range_slots, record_code, records_code, start_code, test_slots};
+ghost use Rattle.record_questions.specs.Code.{counted, emitted_code, emitted_slots, match_code, match_slots, question_code, question_program, record_code, records_code, start_code, test_slots};
 ghost use Rattle.record_questions.specs.Fault.{IsCodeFaultOf};
 
-use crate::emitting::{arithmetic, from_register, load, long, push};
+use crate::emitting::{arithmetic, from_register, load, push};
 use crate::fault::CodeFault;
-use crate::question::{ByteRange, Question};
+use crate::frames::{emitted_slots, push_emitted};
+use crate::question::Question;
 use crate::tallying::{grouped_slots, push_grouped};
 use crate::testing::{push_test, test_slots};
-use instruction_set::{Instruction, Operation, Size, Source};
-use program_interface::{EMIT, MOST_SLOTS};
+use instruction_set::{Instruction, Operation, Size};
+use program_interface::MOST_SLOTS;
 use std::alloc::{AllocError, Global};
-
-/// Emits so many bytes from one of the block on.
-fn push_emit(code: &mut Vec<Instruction>, at: u64, size: u16) -> Result<(), AllocError>
-    requires { at < 2 ^ 31 }
-    ensures { OnOk result (code.new.items ≡ code.old.items ++ emit_code at size) }
-{
-    let at = Source::Immediate(long(at));
-    let size = Source::Immediate(long(u64::from(size)));
-    push(code, arithmetic(Operation::Move, 1, from_register(6)))?;
-    push(code, arithmetic(Operation::Add, 1, at))?;
-    push(code, arithmetic(Operation::Move, 2, size))?;
-    push(code, Instruction::Call { helper: EMIT })?;
-    Ok(())
-}
-
-/// Emits the range of the record at a byte of the block, if there is one.
-fn push_range(
-    code: &mut Vec<Instruction>,
-    byte: u32,
-    range: Option<ByteRange>,
-) -> Result<(), AllocError>
-    requires { byte ≤ 2 ^ 15 }
-    ensures { OnOk result (code.new.items ≡ code.old.items ++ range_code byte range) }
-{
-    match range {
-        None => Ok(()),
-        Some(range) => push_emit(code, u64::from(byte) + u64::from(range.offset), range.size),
-    }
-}
 
 /// How many slots are taken by what is done of a record that matches.
 fn match_slots(question: &Question) -> u64
     ensures { result ≡ counted (match_slots question.now) }
 {
-    let emitted = match question.emitted {
-        None => 0,
-        Some(_) => 4,
-    };
-    grouped_slots(question.by, &question.tallies).saturating_add(emitted)
+    grouped_slots(question.by, &question.tallies).saturating_add(emitted_slots(&question.emitted))
 }
 
 /// How many slots are jumped over where a record doesn't match.
@@ -65,7 +33,7 @@ fn match_skip(question: &Question) -> u64
 }
 
 /// The code of the record at a byte of the block.
-#[tactic(auto, using(crate::proofs::Reach::predicate_near, crate::proofs::Reach::tallies_near, crate::proofs::Reach::grouping_near, crate::proofs::Reach::tallies_few))]
+#[tactic(auto, using(crate::proofs::Reach::predicate_near, crate::proofs::Reach::ranges_near, crate::proofs::Reach::tallies_near, crate::proofs::Reach::grouping_near, crate::proofs::Reach::tallies_few))]
 fn push_record(
     code: &mut Vec<Instruction>,
     question: &Question,
@@ -78,7 +46,7 @@ fn push_record(
 {
     push_test(code, byte, true, &question.wanted, match_skip(question))?;
     push_grouped(code, byte, question.by, &question.tallies)?;
-    push_range(code, byte, question.emitted)
+    push_emitted(code, byte, &question.emitted)
 }
 
 /// The code of all records.

@@ -8,13 +8,14 @@ mod code;
 mod comparing;
 mod emitting;
 mod fault;
+mod frames;
 pub mod laws;
 mod loads;
 mod question;
 mod tallying;
 mod testing;
 
-pub use check::{is_question, words_of};
+pub use check::{emitted_bytes, is_question, stacked_bytes, words_of};
 pub use code::instructions;
 pub use fault::CodeFault;
 pub use question::{

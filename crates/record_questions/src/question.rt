@@ -135,8 +135,8 @@ pub struct Question {
     pub count: u16,
     /// Which of them match.
     pub wanted: Predicate,
-    /// Which bytes of each match are emitted, if any.
-    pub emitted: Option<ByteRange>,
+    /// Which bytes of each match are emitted, one range after another, in one frame; nothing is where there is no range.
+    pub emitted: Vec<ByteRange>,
     /// What is tallied of the matches of each group, group by group, from the first word of scratch on.
     pub tallies: Vec<Tally>,
     /// By what the matches are grouped, if they are; else they are one group.
