@@ -11,10 +11,7 @@ use question_words::text_of;
 use std::alloc::{AllocError, Global};
 
 /// The question in full, and the programs that ask it.
-pub(crate) fn explained(
-    alloc: Global,
-    compiled: &CompiledQuestion,
-) -> Result<String, AllocError> {
+pub(crate) fn explained(alloc: Global, compiled: &CompiledQuestion) -> Result<String, AllocError> {
     let mut text = String::new(alloc);
     let condition = text_of(alloc, &compiled.question.wanted)?;
     writeln!(text, "where: {}", condition.as_str())?;

@@ -11,7 +11,9 @@ use command_files::Failure;
 use command_files::arguments::required;
 use instruction_set::Size;
 use program_interface::{BlockSize, SCRATCH_BYTES};
-use record_questions::{ByteRange, Comparison, Field, Grouping, Operand, Predicate, Question, Sign, Tally};
+use record_questions::{
+    ByteRange, Comparison, Field, Grouping, Operand, Predicate, Question, Sign, Tally,
+};
 use std::alloc::{AllocError, Global};
 
 /// The option that names the field by which records are grouped.
