@@ -47,10 +47,13 @@ fn of_full_blocks(alloc: Global, wanted: Predicate) -> Result<Question, Fail> {
         size: 16,
         count: 32,
         wanted,
-        emitted: ranges(alloc, &[ByteRange {
-            offset: 2,
-            size: 14,
-        }])?,
+        emitted: ranges(
+            alloc,
+            &[ByteRange {
+                offset: 2,
+                size: 14,
+            }],
+        )?,
         tallies: Vec::new(alloc),
         by: None,
     })

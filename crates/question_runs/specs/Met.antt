@@ -1,5 +1,5 @@
 -- That there is a question of which the laws speak.
-use Rattle.std.specs.Prelude.{ℕ, Bool, ◌≡◌, ◌+◌, List, [], ◌∷◌, length}
+use Rattle.std.specs.Prelude.{None, ℕ, Bool, ◌≡◌, ◌+◌, List, [], ◌∷◌, length}
 use Rattle.std.specs.declared.alloc.Global.{Global}
 use Rattle.std.specs.Ptr.{Ptr}
 use Rattle.common_definitions.specs.Bytes.{AreBytes, field}
