@@ -679,10 +679,20 @@ class Geometry(NamedTuple):
 
 
 def geometry_of(image: FilePath) -> Geometry:
-    """The numbers of an image file, which are after its first 8 bytes; a journal has its image after 34 bytes more, or 17 without a label."""
-    with open(image, "rb") as file:
-        front = file.read(66)
+    """The numbers of an image file, which are after its first 8 bytes; a journal has its image after 34 bytes more, or 17 without a label.
+
+    >>> geometry_of(os.devnull)
+    Traceback (most recent call last):
+    pifnjarl.DeviceError: /dev/null: neither an image nor a journal
+    """
+    try:
+        with open(image, "rb") as file:
+            front = file.read(66)
+    except OSError as error:
+        raise DeviceError(f"{os.fspath(image)}: {(error.strerror or str(error)).lower()}") from None
     before = 34 if front.startswith(b"ZNSJRN01\2") else 17 if front.startswith(b"ZNSJRN01") else 0
+    if len(front) < before + 32 or not front.startswith(b"ZNSIMG0", before):
+        raise DeviceError(f"{os.fspath(image)}: neither an image nor a journal")
     return Geometry(*struct.unpack_from("<8x6I", front, before))
 
 
@@ -903,6 +913,9 @@ class Commands:
     geometry: Geometry
     """The numbers of the namespace."""
 
+    _is_shared = False
+    """Whether others may load programs into the slots."""
+
     def __init__(self, program: Optional[FilePath], queue: int) -> None:
         """`program` is `zscli`, and `queue` the submission queue of the commands that come."""
         self.queue = queue
@@ -912,6 +925,11 @@ class Commands:
         self._ended: Dict[int, Run] = {}
         # the slots that questions took, with what they loaded there
         self._question_slots: Dict[int, object] = {}
+
+    def __reduce__(self) -> str:
+        raise TypeError(
+            "a device that is open can't go to another process: name its image's path, or what opens it, as functools.partial(Device, path)"
+        )
 
     # ---- blocks
 

@@ -9,7 +9,8 @@ the namespace by an ioctl. So programs are loaded and run, and questions asked, 
         print(disk.query(1024, "orders.layout", "region == 3", sum="price"))
 
 It wants Linux 5.13 or later, and root. Commands are done one after another: a method that ends in `_async` returns when its command is
-done, and `run` when the run has ended. A disk has no image that could be saved, and faults of zones can't be made.
+done, and `run` when the run has ended. A disk has no image that could be saved, and faults of zones can't be made. Other hosts may use the
+same namespace: two that ask questions at a time want slots of their own, as `query(.., slots=[7])` names one, and zones.
 """
 
 from __future__ import annotations
@@ -56,6 +57,8 @@ _NO_LIMIT = 2**32 - 1
 
 class Disk(Commands):
     """A namespace of Linux."""
+
+    _is_shared = True
 
     def __init__(self, path: FilePath, *, timeout: float = 600.0, program: Optional[FilePath] = None) -> None:
         """Opens it, as `/dev/ng0n1`. A command may take so many seconds: without a limit of its own Linux waits 30 s, and connects again.

@@ -634,6 +634,9 @@ class _Asking:
     def __init__(self, device: Commands, programs: List[_Program], argument: int, source: Zone, to: Zone, slots: List[int]) -> None:
         self._device, self._programs, self._argument, self._source, self._to = device, programs, argument, source, to
         self._slots = slots
+        if device._is_shared:
+            # whatever this one loaded before, another host may have loaded over it
+            device._question_slots = dict.fromkeys(device._question_slots)
         # how many blocks are appended since the zone was empty
         self._used = 0
 

@@ -15,6 +15,7 @@ from unittest import mock
 sys.path.insert(0, str(Path(__file__).resolve().parent))
 import pifnjarl
 import pifnjarl_linux
+import pifnjarl_query
 from pifnjarl import ZoneState
 from pifnjarl_linux import ADMIN, ID, IO, Disk
 from test_query import LAYOUT, Over, data, orders
@@ -148,6 +149,16 @@ class Disks(Over):
         self.assertEqual([zone.state for zone in disk.report()].count(ZoneState.EMPTY), 4)
         disk.finish(8)
         self.assertEqual(disk.query(8, LAYOUT, "number != 0", count=True).count, 640)
+
+    def test_another_host_may_load_programs(self) -> None:
+        """So one question more loads its program again, into the same slot."""
+        disk, other = self.disk(), self.disk()
+        disk.append(8, data(orders(128), 4096))
+        question = pifnjarl_query.Question(LAYOUT, "number != 0", count=True)
+        self.assertEqual(question.ask(disk, 8).count, 128)
+        other.load(7, pifnjarl.EMITS_NOTHING, emit=0)
+        self.assertEqual(question.ask(disk, 8).count, 128)
+        self.assertEqual((question.ask(other, 8).count, list(disk._question_slots), list(other._question_slots)), (128, [7], [6]))
 
     def test_what_is_no_disk(self) -> None:
         """No such file, no namespace of this project, one without zones, and calls that fail."""

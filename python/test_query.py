@@ -481,6 +481,10 @@ class Several(Over):
             self.ask([*self.images[:4], str(self.images[4])], executor)
             with self.assertRaisesRegex(ValueError, "17 is the lowest LBA of no zone of .*0.img"):
                 pifnjarl.query_all(self.images, 17, LAYOUT, "number != 0", executor=executor)
+            (self.folder / "short.img").write_bytes(b"ZNSIMG02")
+            for name, said in (("none.img", "no such file or directory"), ("short.img", "neither an image nor a journal")):
+                with self.assertRaisesRegex(pifnjarl.DeviceError, f"{name}: {said}"):
+                    pifnjarl.query_all([self.folder / name], 0, LAYOUT, "number != 0", executor=executor)
             with self.assertRaisesRegex(pifnjarl_query.QuestionRefused, "no field of this name"):
                 pifnjarl.query_all(self.images, 0, LAYOUT, "nr != 0", executor=executor)
         self.assertEqual([image.read_bytes() for image in self.images], before)
@@ -494,6 +498,8 @@ class Several(Over):
             self.ask(opening, executor)
             with self.assertRaises(pifnjarl_query.QuestionRefused):
                 pifnjarl.query_all(opening, 0, LAYOUT, "nr != 0", executor=executor)
+            with self.assertRaisesRegex(TypeError, "a device that is open can't go to another process"):
+                pifnjarl.query_all(self.devices(), 0, LAYOUT, "number != 0", executor=executor)
 
     def test_a_cluster_is_asked(self) -> None:
         """Of two processes, where Dask's distributed is installed."""
