@@ -16,7 +16,9 @@ from pathlib import Path
 from typing import Any, Dict, List, NamedTuple, Optional, Tuple
 from unittest import mock
 
-sys.path.insert(0, str(Path(__file__).resolve().parent))
+HERE = Path(__file__).resolve().parent
+sys.path[:0] = [str(HERE), str(HERE.parent / "tests" / "random_questions")]
+import draw
 import pifnjarl
 import pifnjarl_query
 from pifnjarl import ZoneState
@@ -200,6 +202,44 @@ class Answers(Over):
                 if device.report()[0].state == ZoneState.EMPTY:
                     device.append(0, data(rows))
                 self.assertEqual(device.query(0, LAYOUT, "region == 2"), [row for row in rows if row.region == 2])
+
+
+class Drawn(Over):
+    """Questions that are drawn, as tests/random_questions draws them."""
+
+    def test_what_python_gives_follows_from_the_definitions(self) -> None:
+        """Rows and tallies, of devices and of images; bytes are in hexadecimal there."""
+        for seed in range(1001, 1041):
+            drawn = draw.draw(seed)
+            for name, content in drawn.files.items():
+                (self.folder / name).write_bytes(content)
+            words: Dict[str, Any] = {"count": "--count" in drawn.words}
+            given = dict(zip(drawn.words, drawn.words[1:]))
+            words.update({name: given[f"--{name}"] for name in ("select", "sum", "least", "greatest") if f"--{name}" in given})
+            [where] = [word[len("--where=") :] for word in drawn.words if word.startswith("--where=")]
+            asked: Dict[str, Any] = {"argument": int(given.get("--argument", "0"))}
+            if "--blocks" in given:
+                asked["blocks"] = int(given["--blocks"])
+            zone = draw.ZONE * int(given["--zone"])
+            question = pifnjarl_query.Question(self.folder / "layout", where, **words)
+            with self.subTest(seed=seed, words=drawn.words):
+                if drawn.answer is None:
+                    with self.assertRaises(pifnjarl_query.QuestionRefused):
+                        question.part_of_image(self.folder / "zoned.img", zone)
+                    continue
+                try:
+                    of_image = pifnjarl_query.joined([question.part_of_image(self.folder / "zoned.img", zone, **asked)])
+                except pifnjarl_query.QuestionRefused as refused:
+                    self.assertRegex(str(refused), "needs more than 8 programs")
+                    continue
+                with pifnjarl.Device(self.folder / "zoned.img") as device:
+                    found = question.ask(device, zone, **asked)
+                self.assertEqual(found, of_image)
+                if isinstance(found, Tallies):
+                    rows = [[getattr(found, name.partition("(")[0]) for name in drawn.answer.names]]
+                else:
+                    rows = [[f"0x{cell.hex()}" if isinstance(cell, bytes) else cell for cell in row] for row in found]
+                self.assertEqual(rows, drawn.answer.rows)
 
 
 class Numpy(Over):
