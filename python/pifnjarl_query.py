@@ -343,16 +343,18 @@ def unpacked(appended: bytes, block: int, size: int, count: int) -> bytes:
     Traceback (most recent call last):
     pifnjarl_query.AnswerDamaged: the run emitted 3 records, and the blocks that it appended have 2
     """
-    found = []
+    # a record has its length before it, in two bytes, the lower first
+    length = re.escape(size.to_bytes(2, "little"))
+    record = re.compile(length + b"(.{%d})" % size, re.S)
+    records = re.compile(b"(?:%s.{%d})*" % (length, size), re.S)
+    found: List[bytes] = []
     for start in range(0, len(appended), block):
-        at, end = start, start + block
-        while at + 2 <= end and (length := int.from_bytes(appended[at : at + 2], "little")):
-            if length != size or at + 2 + size > end:
-                raise AnswerDamaged(f"byte {at} of what was appended begins no record of {size} bytes")
-            found.append(appended[at + 2 : at + 2 + size])
-            at += 2 + size
+        end = start + block
+        front = records.match(appended, start, end)
+        at = start if front is None else front.end()
         if appended.count(0, at, end) != end - at:
-            raise AnswerDamaged(f"from byte {at} to {end} of what was appended there is more than zeros")
+            raise AnswerDamaged(f"from byte {at} on what was appended is neither a record of {size} bytes nor zeros to the end of its block")
+        found += record.findall(appended, start, at)
     if len(found) != count:
         raise AnswerDamaged(f"the run emitted {count} records, and the blocks that it appended have {len(found)}")
     return b"".join(found)
