@@ -561,6 +561,7 @@ def query_all(
     executor: Union[Executor, Any],
     blocks: Optional[int] = None,
     argument: int = 0,
+    slots: Optional[Sequence[int]] = None,
     numpy: bool = False,
     program: Optional[FilePath] = None,
     **words: Any,
@@ -592,20 +593,22 @@ def query_all(
     under_way = []
     try:
         for asked, its_zone in zip(devices, zones):
-            under_way.append(executor.submit(_part_of, question, asked, its_zone, blocks, argument))
+            under_way.append(executor.submit(_part_of, question, asked, its_zone, blocks, argument, slots))
     finally:
         wait(under_way)
     return joined([done.result() for done in under_way])
 
 
-def _part_of(question: Question, asked: Asked, zone: int, blocks: Optional[int], argument: int) -> Part:
+def _part_of(
+    question: Question, asked: Asked, zone: int, blocks: Optional[int], argument: int, slots: Optional[Sequence[int]]
+) -> Part:
     """What one device answers. An executor may have this called in another process."""
     if isinstance(asked, Commands):
-        return question.part(asked, zone, blocks=blocks, argument=argument)
+        return question.part(asked, zone, blocks=blocks, argument=argument, slots=slots)
     if isinstance(asked, (str, os.PathLike)):
         return question.part_of_image(asked, zone, blocks=blocks, argument=argument)
     with asked() as device:
-        return question.part(device, zone, blocks=blocks, argument=argument)
+        return question.part(device, zone, blocks=blocks, argument=argument, slots=slots)
 
 
 # ---- a device that is asked

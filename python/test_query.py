@@ -509,8 +509,11 @@ class Several(Over):
         self.assertEqual(other, [(row.number,) for row in self.rows[0]])
 
     def test_devices_are_asked_in_threads(self) -> None:
+        devices = self.devices()
         with ThreadPoolExecutor() as executor:
-            self.ask(self.devices(), executor)
+            self.ask(devices, executor)
+            asked = pifnjarl.query_all(devices, 0, LAYOUT, "number != 0", executor=executor, count=True, slots=[2])
+        self.assertEqual((asked.count, {tuple(device._question_slots) for device in devices}), (128 * 15, {(7, 2)}))
 
     def test_images_are_asked_by_their_paths(self) -> None:
         """A journal too; their files stay as they are."""
