@@ -287,7 +287,7 @@ class _Tallied:
     form = "--json"
 
     def __init__(self, names: List[str]) -> None:
-        """The count comes first, whether it is asked for or not."""
+        """The names begin with the count."""
         self.names = names
 
     def piece(self, device: Commands, slot: int, lba: int, done: pifnjarl.Result) -> Tallies:
@@ -425,8 +425,11 @@ class Question:
         self._file, self._text = _text_of(layout)
         self._dtype: Any = layout if _is_dtype(layout) else None
         self._numpy, self._zscli = numpy, program
+        if any(words.get(name) for name in _TALLIES):
+            # how many records match says whether there is a least and a greatest, also of several answers
+            words = {**words, "count": words.get("count") or True}
         self._options = [f"--where={where}", *_options(words)]
-        self._names = [name for name in _TALLIES if name == "count" or words.get(name)]
+        self._names = [name for name in _TALLIES if words.get(name)]
         self._is_whole = words.get("select") is None
         self._compiled: Dict[int, _Compiled] = {}
 

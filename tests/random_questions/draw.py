@@ -233,14 +233,18 @@ class Draw:
         """The words, with the columns, or the tallies by their names in a row."""
         unsigned = [column for column in self.columns if column.field is not None and not column.field.signed]
         if self.maybe(0.4):
-            named = [("count", Tally("count"))]
+            named: List[Tuple[str, Tally]] = []
             words: List[str] = []
             for kind in ("sum", "least", "greatest"):
                 if unsigned and self.maybe(0.6):
                     column = self.rng.choice(unsigned)
                     words += [f"--{kind}", column.name]
                     named.append((f"{kind}({column.name})", Tally(kind, column.field)))
-            return ([*words, "--count"] if not words or self.maybe(0.5) else words), [], named
+            if not words or self.maybe(0.5):
+                words.append("--count")
+                # it is the first, whatever the order of the words
+                named.insert(0, ("count", Tally("count")))
+            return words, [], named
         if self.maybe(0.2):
             return [], self.columns, []
         some = self.rng.sample(self.columns, self.rng.randint(1, len(self.columns)))
