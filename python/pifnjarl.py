@@ -903,8 +903,8 @@ def _end_left(stream: _Stream) -> None:
 
 
 class Commands:
-    """What a device does by commands, whichever way they go: a class below this one says which. `Device` is served by `zscli`, and the one of
-    pifnjarl_linux.py is a disk of Linux.
+    """What a device does by commands, whichever way they go, which a class below this one says: a `Device` is served by `zscli`, and the
+    `Disk` of pifnjarl_linux.py is one of Linux.
 
     Methods are called one at a time. Where nothing else is said, one that raises `Refused` changed nothing. A zone is its
     lowest LBA; `open`, `close`, `finish`, `reset` and `offline` also take `ALL_ZONES`.

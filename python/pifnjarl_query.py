@@ -353,7 +353,7 @@ def unpacked(appended: bytes, block: int, size: int, count: int) -> bytes:
         front = records.match(appended, start, end)
         at = start if front is None else front.end()
         if appended.count(0, at, end) != end - at:
-            raise AnswerDamaged(f"from byte {at} on what was appended is neither a record of {size} bytes nor zeros to the end of its block")
+            raise AnswerDamaged(f"from byte {at} on there is neither a record of {size} bytes nor zeros to the end of its block")
         found += record.findall(appended, start, at)
     if len(found) != count:
         raise AnswerDamaged(f"the run emitted {count} records, and the blocks that it appended have {len(found)}")
@@ -691,7 +691,8 @@ class _Asking:
         self._device.reset(self._to.start)
 
     def runs(self, blocks: int, appends: bool) -> Iterator[Tuple[int, int, pifnjarl.Result]]:
-        """Runs the programs over so many blocks, and gives of each run that has ended the slot, where it began to append, and its result."""
+        """Runs the programs over so many blocks, and gives of each run that has ended the slot, where it began to append, and what it
+        came to."""
         # the records of several programs come in order where each run is over one block; what a run appends fits an empty zone, as no
         # program emits more than a block for one
         most = 1 if appends and len(self._programs) > 1 else _MOST_BLOCKS
