@@ -60,7 +60,8 @@ def read(printed: bytes, words: List[str]) -> object:
         return printed
     if "--json" in words:
         return [list(row.items()) for row in json.loads(printed)]
-    return list(csv.reader(io.StringIO(printed.decode(), newline=""), strict=True))
+    # an empty line is a row with one column, and nothing in it
+    return [row or [""] for row in csv.reader(io.StringIO(printed.decode(), newline=""), strict=True)]
 
 
 def wanted(answer: draw.Answer, words: List[str]) -> object:
