@@ -112,6 +112,7 @@ tree() {
     "$1" 644 "$top/docs/zscli.fish" "$prefix/share/fish/vendor_completions.d/zscli.fish"
     "$1" 644 "$top/python/pifnjarl.py" "$python/pifnjarl.py"
     "$1" 644 "$top/python/pifnjarl_query.py" "$python/pifnjarl_query.py"
+    "$1" 644 "$top/python/pifnjarl_linux.py" "$python/pifnjarl_linux.py"
     "$1" 644 "$top/target/pifnjarl-nvme-tcp@.service.in" "$prefix/lib/systemd/system/pifnjarl-nvme-tcp@.service"
     "$1" 644 "$top/target/pifnjarl.sysusers" "$prefix/lib/sysusers.d/pifnjarl.conf"
     "$1" 644 "$top/target/pifnjarl.tmpfiles" "$prefix/lib/tmpfiles.d/pifnjarl.conf"

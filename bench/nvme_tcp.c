@@ -4,14 +4,18 @@
 //                     has the target at that port of 127.0.0.1 do COUNT Appends of SIZE bytes and as many Reads, with DEPTH of them
 //                     under way, in five rounds; prints the least nanoseconds of an Append, and of a Read. Up to 8192 bytes are in the
 //                     capsule of an Append, unless its data is asked for
+// nvme_tcp PORT SIZE COUNT DEPTH into FILE
+//                     has it do the Reads alone, from LBA 0 on, and puts the blocks into FILE; prints the least nanoseconds of a Read
 //
 // Blocks have 4096 bytes, and zones 4096 blocks.
 #include <arpa/inet.h>
+#include <fcntl.h>
 #include <netinet/tcp.h>
 #include <stdint.h>
 #include <stdio.h>
 #include <stdlib.h>
 #include <string.h>
+#include <sys/mman.h>
 #include <sys/socket.h>
 #include <sys/uio.h>
 #include <time.h>
@@ -27,6 +31,7 @@ static int peer; // the socket of the queue
 static uint8_t pdu[DATA_HEADER + TRANSFER], buffer[65536];
 static size_t first, last;
 static uint32_t in_capsule = IN_CAPSULE; // the most bytes of data that are put into a capsule
+static uint8_t *into;                    // where the data of Reads goes, if it is wanted
 
 static uint32_t number(const uint8_t *at) {
   uint32_t value;
@@ -73,12 +78,19 @@ static void receive_bytes(uint8_t *bytes, size_t count) {
   }
 }
 
-// Takes a PDU: its type.
-static uint8_t receive(void) {
+// Takes a PDU: its type. The data of a Read goes where it is wanted, which the identifier and the offset say.
+static uint8_t receive(uint32_t size) {
   receive_bytes(pdu, 8);
   uint32_t length = number(pdu + 4);
   if (length < 8 || length > sizeof pdu) fail("a PDU is too long");
-  receive_bytes(pdu + 8, length - 8);
+  if (into && pdu[0] == C2H_DATA && length > DATA_HEADER) {
+    receive_bytes(pdu + 8, DATA_HEADER - 8);
+    uint32_t offset = number(pdu + 12);
+    if (offset > size || length - DATA_HEADER > size - offset) fail("more was read than was asked for");
+    receive_bytes(into + (size_t)(number(pdu + 8) & 0xffff) * size + offset, length - DATA_HEADER);
+  } else {
+    receive_bytes(pdu + 8, length - 8);
+  }
   return pdu[0];
 }
 
@@ -102,7 +114,7 @@ static void submit(uint8_t opcode, uint8_t kind, uint16_t identifier, const uint
 
 // Waits for a completion, which has to tell no refusal.
 static void complete(void) {
-  if (receive() != RESPONSE) fail("another PDU than a completion came");
+  if (receive(0) != RESPONSE) fail("another PDU than a completion came");
   if (pdu[22] > 1 || pdu[23]) fail("a command was refused");
 }
 
@@ -115,7 +127,7 @@ static int begin(uint16_t port, uint16_t queue, uint32_t entries, uint16_t contr
   setsockopt(peer, IPPROTO_TCP, TCP_NODELAY, &yes, sizeof yes);
   uint8_t request[INITIALIZE] = {0, 0, INITIALIZE, 0, INITIALIZE}, data[CONNECT_DATA] = "a host that asks";
   send_bytes(request, sizeof request);
-  receive();
+  receive(0);
   memcpy(data + 16, &controller, 2);
   strcpy((char *)data + 256, NAME);
   strcpy((char *)data + 512, "nqn.2026-11.test:bench");
@@ -149,7 +161,7 @@ static uint64_t transfers(uint8_t opcode, uint32_t size, uint32_t count, uint32_
   uint64_t begin = now();
   for (uint32_t sent = 0, done = 0; done < count;) {
     for (; sent < count && sent - done < depth; sent++) transfer(opcode, sent, size);
-    switch (receive()) {
+    switch (receive(size)) {
     case R2T: give(size); break;
     case C2H_DATA:
       if (number(pdu + 16) != size) fail("another number of bytes was read");
@@ -164,16 +176,36 @@ static uint64_t transfers(uint8_t opcode, uint32_t size, uint32_t count, uint32_
   return now() - begin;
 }
 
+// The memory of a file with room for so many bytes.
+static uint8_t *memory_of(const char *name, size_t bytes) {
+  int file = open(name, O_RDWR | O_CREAT, 0666);
+  if (file < 0 || ftruncate(file, bytes)) fail("the file can't be made");
+  void *memory = mmap(NULL, bytes, PROT_READ | PROT_WRITE, MAP_SHARED, file, 0);
+  if (memory == MAP_FAILED) fail("there is no memory");
+  return memory;
+}
+
 int main(int argc, char **argv) {
-  if (argc != 5 && argc != 6) return 2;
+  if (argc < 5 || argc > 7) return 2;
   if (argc == 6) in_capsule = 0;
   uint16_t port = atoi(argv[1]);
   uint32_t size = atoi(argv[2]), count = atoi(argv[3]), depth = atoi(argv[4]);
+  // each Read has an identifier of its own
+  if (argc == 7 && count > 65535) return 2;
   uint64_t appends = -1, reads = -1;
   begin(port, 0, 32, 0xffff);
   submit(FABRICS, 0, 1, (uint32_t[6]){0, 0x14, 0x00460061}, 0, NULL);
   complete();
   begin(port, 1, 128, 1);
+  if (argc == 7) {
+    into = memory_of(argv[6], (size_t)size * count);
+    for (int round = 0; round < ROUNDS; round++) {
+      uint64_t spent = transfers(READ, size, count, depth);
+      if (spent < reads) reads = spent;
+    }
+    printf("%lu ns a Read\n", (unsigned long)(reads / count));
+    return 0;
+  }
   for (int round = 0; round < ROUNDS; round++) {
     submit(SEND, 0, 0, (uint32_t[6]){0, 0, 0, RESET_ALL}, 0, NULL);
     complete();

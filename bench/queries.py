@@ -9,9 +9,12 @@ each of these are wanted. All are compared first. Times are the least of the rou
 - of `zscli query`, without what it takes to load the image, which the same question of one block shows;
 - of numpy over the same bytes in memory; of sqlite3 over a table of the same rows in memory;
 - of runs of its program and of the filter in C, in a device of `zscli serve`, beyond what a program takes there that does nothing;
-- of making a program of the question, without what starting the command takes.
+- of making a program of the question, without what starting the command takes;
+- over NVMe/TCP on loopback, of a run of its program with the reading of what it appended, and of reading all blocks by a host in C, with 32
+  Reads of 128 KiB under way, before numpy compares them.
 
-It wants numpy, clang and LLVM's tools, and some 600 MB in /dev/shm. ZSCLI names the program; else it is the one of this repository.
+It wants numpy, clang and LLVM's tools, gcc, and some 800 MB in /dev/shm. ZSCLI names the program, and NVME_TCP_TARGET the target; else they
+are made of this repository.
 """
 
 import os
@@ -20,17 +23,21 @@ import subprocess
 import sys
 import tempfile
 import time
+from contextlib import contextmanager
 from pathlib import Path
-from typing import Callable, Dict, List
+from typing import Any, Callable, Dict, Iterator, List
 
 import numpy
 
 TOP = Path(__file__).resolve().parent.parent
-sys.path.insert(0, str(TOP / "python"))
+sys.path[:0] = [str(TOP / "python"), str(TOP / "target")]
+import nvme_tcp_host  # noqa: E402
 import pifnjarl  # noqa: E402
+import pifnjarl_query  # noqa: E402
 
 BLOCK, BLOCKS, IN_BLOCK = 4096, 32000, 64
 ZONE = 32768
+TRANSFER, UNDER_WAY = 131072, 32
 WHERE = "region == 3 && amount >= 50"
 LAYOUT = "records 64\norder bytes16 @0\nregion u32 @16\namount u32 @20\n"
 RECORD = numpy.dtype([("order", "V16"), ("region", "<u4"), ("amount", "<u4"), ("rest", "V40")])
@@ -56,7 +63,7 @@ def best(rounds: int, what: Callable[[], object]) -> float:
     return min(times)
 
 
-def records() -> "numpy.ndarray":
+def records() -> Any:
     """The records, by numbers that come again with each launch."""
     numbers = numpy.random.default_rng(93)
     made = numpy.zeros(BLOCKS * IN_BLOCK, RECORD)
@@ -98,9 +105,9 @@ class Asked:
 
             return best(self.rounds, once)
 
-    def in_numpy(self) -> bytes:
+    def in_numpy(self, rows: Any) -> bytes:
         """The answer by numpy."""
-        return bytes(self.rows["order"][(self.rows["region"] == 3) & (self.rows["amount"] >= 50)].tobytes())
+        return bytes(rows["order"][(rows["region"] == 3) & (rows["amount"] >= 50)].tobytes())
 
     def filter(self) -> Path:
         """The program of the same filter in C."""
@@ -116,6 +123,76 @@ class Asked:
         rows = zip((bytes(it) for it in self.rows["order"]), self.rows["region"].tolist(), self.rows["amount"].tolist())
         table.executemany("insert into records values (?, ?, ?)", rows)
         return table
+
+
+class Remote:
+    """The same zone over NVMe/TCP."""
+
+    def __init__(self, asked: Asked, program: Path, emit: int, wanted: bytes) -> None:
+        """It is asked by a program, and `wanted` is to come."""
+        self.asked, self.program, self.emit, self.wanted = asked, program, emit, wanted
+        self.host = asked.folder / "host"
+        subprocess.run(["cc", "-O2", "-Wall", "-o", str(self.host), str(TOP / "bench" / "nvme_tcp.c")], check=True)
+        named = os.environ.get("NVME_TCP_TARGET")
+        if named is None:
+            subprocess.run([str(TOP / "target" / "build.sh"), str(asked.folder)], check=True, stdout=subprocess.DEVNULL)
+        self.target = named or str(asked.folder / "nvme_tcp")
+        # the UUID of the subsystem that the hosts name
+        Path(f"{asked.image}.uuid").write_text(nvme_tcp_host.SUBSYSTEM_NQN.rpartition(":")[2] + "\n")
+
+    @contextmanager
+    def served(self) -> Iterator[int]:
+        """The port of the target, which has the zone in memory."""
+        words = [self.target, str(self.asked.image), "--memory", "--listen", "127.0.0.1:0"]
+        with subprocess.Popen(words, stdout=subprocess.PIPE, text=True) as target:
+            assert target.stdout is not None
+            try:
+                yield int(target.stdout.readline().rpartition(":")[2])
+            finally:
+                target.terminate()
+
+    def run(self, port: int) -> float:
+        """The time of a run over all blocks, with the reading of its answer."""
+        with nvme_tcp_host.Host(("127.0.0.1", port)) as host:
+            queue = host.queue(1)
+            queue.load(0, self.program.read_bytes(), self.emit)
+            most = TRANSFER // BLOCK
+
+            def once() -> bytes:
+                queue.zone_action(nvme_tcp_host.Action.OPEN, ZONE)
+                count, blocks = queue.run(0, 0, BLOCKS, ZONE)
+                reads = [queue.read(ZONE + at, min(most, blocks - at)) for at in range(0, blocks, most)]
+                queue.zone_action(nvme_tcp_host.Action.RESET, ZONE)
+                return pifnjarl_query.unpacked(b"".join(reads), BLOCK, 16, count)
+
+            if once() != self.wanted:
+                raise SystemExit("what is answered over NVMe/TCP differs")
+            return best(self.asked.rounds, once)
+
+    def read(self, port: int) -> float:
+        """The time of reading all blocks."""
+        blocks = self.asked.folder / "read"
+        words = [str(self.host), str(port), str(TRANSFER), str(BLOCK * BLOCKS // TRANSFER), str(UNDER_WAY), "into", str(blocks)]
+        told = subprocess.run(words, check=True, stdout=subprocess.PIPE, text=True).stdout
+        return int(told.split()[0]) * 1e-9 * (BLOCK * BLOCKS // TRANSFER)
+
+    def compare(self) -> float:
+        """The time that numpy takes for the blocks that were read, where the host put them."""
+        rows = numpy.memmap(self.asked.folder / "read", RECORD, "r")
+        if self.asked.in_numpy(rows) != self.wanted:
+            raise SystemExit("what is read over NVMe/TCP differs")
+        return best(self.asked.rounds, lambda: self.asked.in_numpy(rows))
+
+    def times(self) -> Dict[str, float]:
+        """All of them."""
+        with self.served() as port:
+            run, read = self.run(port), self.read(port)
+        compared = self.compare()
+        return {
+            "a run over NVMe/TCP, and reading its answer": run,
+            "reading all over NVMe/TCP, and numpy": read + compared,
+            "of that numpy": compared,
+        }
 
 
 def compiled(asked: Asked) -> float:
@@ -138,7 +215,7 @@ def main() -> int:
         asked = Asked(Path(name), rounds)
         table = asked.table()
         select = "select name from records where region = 3 and amount >= 50"
-        wanted = asked.in_numpy()
+        wanted = asked.in_numpy(asked.rows)
         if asked.query("--raw") != wanted or b"".join(it for it, in table.execute(select)) != wanted:
             print("what is answered differs", file=sys.stderr)
             return 1
@@ -151,9 +228,10 @@ def main() -> int:
             "zscli query, without loading the image": whole - best(rounds, lambda: asked.query("--raw", "--blocks", "1")),
             "a run of its program": asked.run(program, emit) - served,
             "a run of the filter in C": asked.run(asked.filter(), emit) - served,
-            "numpy in memory": best(rounds, asked.in_numpy),
+            "numpy in memory": best(rounds, lambda: asked.in_numpy(asked.rows)),
             "sqlite3 in memory": best(rounds, lambda: table.execute(select).fetchall()),
         }
+        times.update(Remote(asked, program, emit, wanted).times())
         print(f"{len(wanted) // 16} of {BLOCKS * IN_BLOCK} records in {BLOCKS} blocks; zscli query with loading: {whole * 1000:.0f} ms")
         for name, seconds in times.items():
             print(f"{name}: {seconds * 1000:.1f} ms, {seconds * 1e9 / BLOCKS:.0f} ns a block")

@@ -1,10 +1,10 @@
-"""Makes the packages of pifnjarl.py and pifnjarl_query.py that `pip` asks for (PEP 517), with the standard library alone: neither a
+"""Makes the packages of pifnjarl.py and the modules beside it that `pip` asks for (PEP 517), with the standard library alone: neither a
 network nor setuptools is needed. pyproject.toml has what they say.
 
     >>> with tempfile.TemporaryDirectory() as folder:
     ...     name = build_wheel(folder)
-    ...     name, zipfile.ZipFile(Path(folder) / name).namelist()[:2]
-    ('pifnjarl-0.1.0-py3-none-any.whl', ['pifnjarl.py', 'pifnjarl_query.py'])
+    ...     name, zipfile.ZipFile(Path(folder) / name).namelist()[:3]
+    ('pifnjarl-0.1.0-py3-none-any.whl', ['pifnjarl.py', 'pifnjarl_query.py', 'pifnjarl_linux.py'])
 """
 
 import base64
@@ -18,7 +18,7 @@ from pathlib import Path
 from typing import Dict, Optional
 
 HERE = Path(__file__).resolve().parent
-MODULES = ["pifnjarl.py", "pifnjarl_query.py"]
+MODULES = ["pifnjarl.py", "pifnjarl_query.py", "pifnjarl_linux.py"]
 SOURCES = ["pyproject.toml", "package.py", *MODULES]
 Settings = Optional[Dict[str, object]]
 

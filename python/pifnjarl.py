@@ -678,11 +678,21 @@ class Geometry(NamedTuple):
     most_active: int
 
 
-def _geometry(image: FilePath) -> Geometry:
-    """The numbers of an image file, which are after its first 8 bytes; a journal has its image after 34 bytes more, or 17 without a label."""
-    with open(image, "rb") as file:
-        front = file.read(66)
+def geometry_of(image: FilePath) -> Geometry:
+    """The numbers of an image file, which are after its first 8 bytes; a journal has its image after 34 bytes more, or 17 without a label.
+
+    >>> geometry_of(os.devnull)
+    Traceback (most recent call last):
+    pifnjarl.DeviceError: /dev/null: neither an image nor a journal
+    """
+    try:
+        with open(image, "rb") as file:
+            front = file.read(66)
+    except OSError as error:
+        raise DeviceError(f"{os.fspath(image)}: {(error.strerror or str(error)).lower()}") from None
     before = 34 if front.startswith(b"ZNSJRN01\2") else 17 if front.startswith(b"ZNSJRN01") else 0
+    if len(front) < before + 32 or not front.startswith(b"ZNSIMG0", before):
+        raise DeviceError(f"{os.fspath(image)}: neither an image nor a journal")
     return Geometry(*struct.unpack_from("<8x6I", front, before))
 
 
@@ -787,7 +797,7 @@ class Submitted(Generic[Given]):
     [True, True, True]
     """
 
-    def __init__(self, device: Device, asked: _Asked, gives: Callable[[_Completion], Given]) -> None:
+    def __init__(self, device: Commands, asked: _Asked, gives: Callable[[_Completion], Given]) -> None:
         self._device, self._asked, self._gives = device, asked, gives
 
     @property
@@ -815,7 +825,7 @@ class Submitted(Generic[Given]):
 class Run:
     """A run of a program, which the device goes on with by one block at a turn."""
 
-    def __init__(self, device: Device, number: int, blocks: int, slot: int, notes: Optional[_Notes]) -> None:
+    def __init__(self, device: Commands, number: int, blocks: int, slot: int, notes: Optional[_Notes]) -> None:
         self.number = number
         self._device, self._slot, self._notes = device, slot, notes
         self._at_once = min(blocks, _MOST_TURNS)
@@ -892,61 +902,34 @@ def _end_left(stream: _Stream) -> None:
             stream.end()
 
 
-class Device:
-    """A device over an image file. It holds the file, and what happens is in its memory, until it saves or ends; with `durable`, it is
-    on the disk before a method returns, in a journal that takes the image's place.
+class Commands:
+    """What a device does by commands, whichever way they go, which a class below this one says: a `Device` is served by `zscli`, and the
+    `Disk` of pifnjarl_linux.py is one of Linux.
 
-    One that is dropped ends too, as by `shut`, with a `ResourceWarning`; what fails then, nobody is told.
-
-    Its methods are called one at a time. Where nothing else is said, one that raises `Refused` changed nothing. A zone is its
+    Methods are called one at a time. Where nothing else is said, one that raises `Refused` changed nothing. A zone is its
     lowest LBA; `open`, `close`, `finish`, `reset` and `offline` also take `ALL_ZONES`.
     """
 
-    def __init__(self, image: FilePath, *, program: Optional[FilePath] = None, queue: int = 1, durable: bool = False) -> None:
-        """Opens a device over an image; `program` is `zscli`, and `queue` the submission queue of the commands that come. A durable one
-        may be a journal too: the runs that a crash left there get their turns first.
+    geometry: Geometry
+    """The numbers of the namespace."""
 
-        >>> Device("no image")
-        Traceback (most recent call last):
-        pifnjarl.DeviceError: no image: no such file or folder
-        cannot read no image
-        """
+    _is_shared = False
+    """Whether others may load programs into the slots."""
+
+    def __init__(self, program: Optional[FilePath], queue: int) -> None:
+        """`program` is `zscli`, and `queue` the submission queue of the commands that come."""
         self.queue = queue
-        self._identifier = 0
-        self._runs: Dict[Tuple[int, int], Run] = {}
+        self._zscli = program
         # of each slot the notes of its program, if there are any, and the run that ended last
         self._loaded: Dict[int, Optional[_Notes]] = {}
         self._ended: Dict[int, Run] = {}
         # the slots that questions took, with what they loaded there
         self._question_slots: Dict[int, object] = {}
-        # the requests that aren't answered yet, and the refused commands that nobody has waited for
-        self._under_way: Deque[_Asked] = deque()
-        self._unseen: List[_Asked] = []
-        durably = ["--durable"] if durable else []
-        self._zscli = zscli(program)
-        self._stream = _Stream([self._zscli, "serve", os.fspath(image), "--frames", *durably])
-        weakref.finalize(self, _end_left, self._stream)
-        try:
-            # what answers this says that the image is loaded; no run is left whose identifier a command could get
-            self.drain()
-            self.geometry = _geometry(image)
-        except BaseException:
-            with suppress(DeviceError):
-                self.shut()
-            raise
 
-    def __enter__(self) -> Device:
-        return self
-
-    def __exit__(self, kind: Optional[Type[BaseException]], leaves: Optional[BaseException], *_: object) -> None:
-        if leaves is None:
-            self.shut()
-            return
-        # an exception that leaves `with` is covered neither by a refusal nor by what fails as the device ends
-        try:
-            self._stream.end()
-        except DeviceError as failed:
-            _put_before(leaves, failed)
+    def __reduce__(self) -> str:
+        raise TypeError(
+            "a device that is open can't go to another process: name its image's path, or what opens it, as functools.partial(Device, path)"
+        )
 
     # ---- blocks
 
@@ -1104,20 +1087,6 @@ class Device:
                 return zones
             lba = zones[-1].start + self.geometry.zone_size
 
-    def fault(self, zone: int, state: ZoneState) -> None:
-        """Brings a zone into a fault's state, Read Only or Offline.
-
-        >>> with example() as device:
-        ...     device.fault(64, ZoneState.OFFLINE)
-        Traceback (most recent call last):
-        pifnjarl.FaultRefused: a fault of the zone of LBA 64
-        """
-        if state not in _FAULTS:
-            raise ValueError(f"a fault makes a zone READ_ONLY or OFFLINE, and not {state.name}")
-        asked = self._ask(_Asked(), _Request.FAULT, part=1 + _FAULTS.index(state), number=zone // self.geometry.zone_size)
-        if self._answer_of(asked).answer == _Answer.FAULT_REFUSED:
-            raise FaultRefused(f"a fault of the zone of LBA {zone}")
-
     # ---- programs
 
     def load(self, slot: int, program: Union[bytes, FilePath], emit: int) -> None:
@@ -1144,23 +1113,8 @@ class Device:
         self._question_slots.pop(slot, None)
 
     def run(self, slot: int, lba: int, blocks: int, to: int, argument: int = 0) -> Run:
-        """Run: starts the program of a slot over written blocks from an LBA on, into an open zone. A run that isn't waited for
-        gets its turns when the device ends.
-
-        >>> with example() as device:
-        ...     device.run(0, 0, 1, to=16)  # doctest: +ELLIPSIS
-        Traceback (most recent call last):
-        pifnjarl.NoSuchProgram: queue 1, command 1: run of slot 0 over 1 block from LBA 0 on, to the zone of LBA 16: refused: ...
-        """
-        if not 0 <= slot < 1 << 8:
-            raise ValueError(f"there is no slot {slot}")
-        if not 1 <= blocks <= 1 << 16:
-            raise ValueError(f"a run is over 1 to 65536 blocks, and not over {blocks}")
-        queue, asked = self.queue, self._submit(_Opcode.RUN, lba, blocks - 1 | slot << 16, argument, to)
-        identifier = self._identifier
-        run = Run(self, self._answer_of(asked).run, blocks, slot, self._loaded.get(slot))
-        self._runs[queue, identifier] = run
-        return run
+        """Run: starts the program of a slot over written blocks from an LBA on, into an open zone."""
+        raise NotImplementedError
 
     def result(self, slot: int) -> bytes:
         """Result: the 1024 bytes of scratch that the last run of a slot's program left.
@@ -1172,6 +1126,184 @@ class Device:
         """
         return self._do(_Opcode.RESULT, slot).data
 
+    # ---- questions
+
+    def query(
+        self,
+        zone: int,
+        layout: Any,
+        where: str,
+        *,
+        numpy: bool = False,
+        blocks: Optional[int] = None,
+        argument: int = 0,
+        into: Optional[int] = None,
+        slots: Optional[Sequence[int]] = None,
+        **words: Any,
+    ) -> Any:
+        """Asks which records of a zone's written blocks, or of its first so many, meet a condition, by programs on the device that
+        `zscli query` makes; pifnjarl_query.py says what that takes of it.
+
+        The layout is the text of a layout file, its path, a list of fields, each with its name, its type and its offset, or a dtype of
+        numpy. The words are those of the command: with `select=["order", "price"]`, or without words, the answer is a list with a named
+        tuple for each record; where the layout is a dtype, or with `numpy`, it is an array. With `count=True`, `sum="price"`, `least` or
+        `greatest` it is one `Tallies` of the records. What is appended goes to an Empty zone, the first or the one that `into` names,
+        which is reset at the end. `slots` names slots whose programs may be replaced, where no slot is free.
+
+        >>> with example() as device:
+        ...     first = device.append(0, b"\\x02lamps".ljust(512, b"\\0") + b"\\x01desk".ljust(512, b"\\0"))
+        ...     device.query(0, [("amount", "u8", 0), ("what", "text8", 1)], "amount > 1")
+        [Row(amount=2, what='lamps')]
+        """
+        from pifnjarl_query import Question
+
+        question = Question(layout, where, numpy=numpy, program=self._zscli, **words)
+        return question.ask(self, zone, blocks=blocks, argument=argument, into=into, slots=slots)
+
+    # ---- commands
+
+    def _blocks(self, data: bytes) -> int:
+        """How many blocks these are."""
+        block = self.geometry.block
+        if not data or len(data) % block:
+            raise ValueError(f"{len(data)} bytes aren't one or more blocks of {block}")
+        return len(data) // block
+
+    def _transfers(self, data: bytes) -> List[bytes]:
+        """Whole blocks in pieces, which one command takes."""
+        self._blocks(data)
+        return [data[at : at + MOST_TRANSFER] for at in range(0, len(data), MOST_TRANSFER)]
+
+    def _send(self, action: _Action, zone: Optional[int]) -> None:
+        """Zone Management Send: takes an action on a zone, or on all."""
+        if zone is None:
+            self._do(_Opcode.ZONE_MANAGEMENT_SEND, 0, 0, action | _SELECT_ALL)
+        else:
+            self._do(_Opcode.ZONE_MANAGEMENT_SEND, zone, 0, action)
+
+    def _do(self, opcode: _Opcode, *dwords: int, data: bytes = b"") -> _Completion:
+        """Submits an entry, and gives its completion, which has to tell success."""
+        return self._completion_of(self._submit(opcode, *dwords, data=data))
+
+    def _completion_of(self, asked: _Asked) -> _Completion:
+        """Waits for a command's completion, which has to tell success."""
+        completion = self._answer_of(asked).completion
+        assert completion is not None
+        return completion
+
+    def _submit_run(self, slot: int, lba: int, blocks: int, to: int, argument: int) -> _Asked:
+        """Submits a Run."""
+        if not 0 <= slot < 1 << 8:
+            raise ValueError(f"there is no slot {slot}")
+        if not 1 <= blocks <= 1 << 16:
+            raise ValueError(f"a run is over 1 to 65536 blocks, and not over {blocks}")
+        return self._submit(_Opcode.RUN, lba, blocks - 1 | slot << 16, argument, to)
+
+    def _submit(self, opcode: _Opcode, *dwords: int, data: bytes = b"") -> _Asked:
+        """Submits an entry, and doesn't wait for its completion."""
+        raise NotImplementedError
+
+    def _answer_of(self, asked: _Asked) -> _Frame:
+        """Waits for what answers a request. If that is a refusal, it is raised."""
+        raise NotImplementedError
+
+    def _has_come(self, asked: _Asked) -> bool:
+        """Has the answer to a request come? Doesn't wait."""
+        raise NotImplementedError
+
+    def _give_turns(self, run: int, count: int) -> None:
+        """Gives the run of a number so many turns. Where the device gives all of them itself, there are none to be given."""
+
+    def _run_to_end(self, slot: int, lba: int, blocks: int, to: int, argument: int) -> Result:
+        """A run with all its turns."""
+        return self.run(slot, lba, blocks, to, argument).wait()
+
+    # ---- programs that were linked
+
+    def _fitting_notes(self, program: FilePath, data: bytes, emit: int) -> Optional[_Notes]:
+        """The notes beside a program's file, which have to be for this device's blocks and this limit."""
+        notes, name = _notes_beside(program, data), os.fspath(program)
+        if notes is not None and notes.block != self.geometry.block:
+            raise LinkedOtherwise(f"{name} was linked for blocks of {notes.block} bytes, and the device has {self.geometry.block}")
+        if notes is not None and notes.emit not in (None, emit):
+            raise LinkedOtherwise(f"{name} was linked to emit at most {notes.emit} bytes for a block, and not {emit}")
+        return notes
+
+    def _guard_of(self, run: Run, notes: _Notes, guard_at: int, result: Result) -> Optional[GuardEnded]:
+        """The guard that ended one of a run's blocks, as the scratch says that the run left, if it is still there."""
+        if self._ended.get(run._slot) is not run:
+            return None
+        number, slot, block = _ENDED.unpack_from(self.result(run._slot), guard_at)
+        guard = notes.guards.get(number)
+        if guard is None or guard.slot != slot:
+            return None
+        return GuardEnded(guard.place, guard.text, block, slot, result)
+
+
+class Device(Commands):
+    """A device over an image file. It holds the file, and what happens is in its memory, until it saves or ends; with `durable`, it is
+    on the disk before a method returns, in a journal that takes the image's place.
+
+    One that is dropped ends too, as by `shut`, with a `ResourceWarning`; what fails then, nobody is told.
+    """
+
+    def __init__(self, image: FilePath, *, program: Optional[FilePath] = None, queue: int = 1, durable: bool = False) -> None:
+        """Opens a device over an image; `program` is `zscli`, and `queue` the submission queue of the commands that come. A durable one
+        may be a journal too: the runs that a crash left there get their turns first.
+
+        >>> Device("no image")
+        Traceback (most recent call last):
+        pifnjarl.DeviceError: no image: no such file or folder
+        cannot read no image
+        """
+        super().__init__(zscli(program), queue)
+        self._identifier = 0
+        self._runs: Dict[Tuple[int, int], Run] = {}
+        # the requests that aren't answered yet, and the refused commands that nobody has waited for
+        self._under_way: Deque[_Asked] = deque()
+        self._unseen: List[_Asked] = []
+        durably = ["--durable"] if durable else []
+        self._stream = _Stream([zscli(program), "serve", os.fspath(image), "--frames", *durably])
+        weakref.finalize(self, _end_left, self._stream)
+        try:
+            # what answers this says that the image is loaded; no run is left whose identifier a command could get
+            self.drain()
+            self.geometry = geometry_of(image)
+        except BaseException:
+            with suppress(DeviceError):
+                self.shut()
+            raise
+
+    def __enter__(self) -> Device:
+        return self
+
+    def __exit__(self, kind: Optional[Type[BaseException]], leaves: Optional[BaseException], *_: object) -> None:
+        if leaves is None:
+            self.shut()
+            return
+        # an exception that leaves `with` is covered neither by a refusal nor by what fails as the device ends
+        try:
+            self._stream.end()
+        except DeviceError as failed:
+            _put_before(leaves, failed)
+
+    # ---- runs and faults
+
+    def run(self, slot: int, lba: int, blocks: int, to: int, argument: int = 0) -> Run:
+        """Run: starts the program of a slot over written blocks from an LBA on, into an open zone. A run that isn't waited for
+        gets its turns when the device ends.
+
+        >>> with example() as device:
+        ...     device.run(0, 0, 1, to=16)  # doctest: +ELLIPSIS
+        Traceback (most recent call last):
+        pifnjarl.NoSuchProgram: queue 1, command 1: run of slot 0 over 1 block from LBA 0 on, to the zone of LBA 16: refused: ...
+        """
+        queue, asked = self.queue, self._submit_run(slot, lba, blocks, to, argument)
+        identifier = self._identifier
+        run = Run(self, self._answer_of(asked).run, blocks, slot, self._loaded.get(slot))
+        self._runs[queue, identifier] = run
+        return run
+
     def drain(self, turns: int = 2**32 - 1) -> int:
         """Gives the active runs turns, one after another, at most so many in all, and tells how many.
 
@@ -1181,52 +1313,26 @@ class Device:
         """
         return self._answer_of(self._ask(_Asked(drains=True), _Request.DRAIN, number=turns)).turns
 
-    # ---- questions
+    def _run_to_end(self, slot: int, lba: int, blocks: int, to: int, argument: int) -> Result:
+        """A run with all its turns: by one request, where no other run is active, since a drain gives turns to each."""
+        run = self.run(slot, lba, blocks, to, argument)
+        if len(self._runs) == 1:
+            self.drain()
+        return run.wait()
 
-    def query(
-        self,
-        zone: int,
-        layout: Any,
-        where: str,
-        *,
-        select: Optional[Sequence[str]] = None,
-        count: bool = False,
-        sum: Optional[str] = None,
-        least: Optional[str] = None,
-        greatest: Optional[str] = None,
-        numpy: bool = False,
-        blocks: Optional[int] = None,
-        argument: int = 0,
-        into: Optional[int] = None,
-    ) -> Any:
-        """Asks which records of a zone's written blocks, or of its first so many, meet a condition, by programs on the device that
-        `zscli query` makes; pifnjarl_query.py says what that takes of it.
-
-        The layout is the text of a layout file, its path, a dict with the type and the offset of each name, or a dtype of numpy. The answer
-        is a list with a named tuple for each record, of the selected fields, or of all; where the layout is a dtype, or with
-        `numpy`, it is an array. With `count`, `sum`, `least` or `greatest` it is one `Tallies` of the records. What is appended goes to an
-        Empty zone, the first or the one that `into` names, which is reset at the end.
+    def fault(self, zone: int, state: ZoneState) -> None:
+        """Brings a zone into a fault's state, Read Only or Offline.
 
         >>> with example() as device:
-        ...     first = device.append(0, b"\\x02lamps".ljust(512, b"\\0") + b"\\x01desk".ljust(512, b"\\0"))
-        ...     device.query(0, {"amount": ("u8", 0), "what": ("text8", 1)}, "amount > 1")
-        [Row(amount=2, what='lamps')]
+        ...     device.fault(64, ZoneState.OFFLINE)
+        Traceback (most recent call last):
+        pifnjarl.FaultRefused: a fault of the zone of LBA 64
         """
-        from pifnjarl_query import Question
-
-        question = Question(
-            layout,
-            where,
-            block=self.geometry.block,
-            select=select,
-            count=count,
-            sum=sum,
-            least=least,
-            greatest=greatest,
-            numpy=numpy,
-            program=self._zscli,
-        )
-        return question.ask(self, zone, blocks=blocks, argument=argument, into=into)
+        if state not in _FAULTS:
+            raise ValueError(f"a fault makes a zone READ_ONLY or OFFLINE, and not {state.name}")
+        asked = self._ask(_Asked(), _Request.FAULT, part=1 + _FAULTS.index(state), number=zone // self.geometry.zone_size)
+        if self._answer_of(asked).answer == _Answer.FAULT_REFUSED:
+            raise FaultRefused(f"a fault of the zone of LBA {zone}")
 
     # ---- the image
 
@@ -1262,30 +1368,7 @@ class Device:
             if asked.refusal is not None:
                 raise asked.refusal
 
-    # ---- commands
-
-    def _blocks(self, data: bytes) -> int:
-        """How many blocks these are."""
-        block = self.geometry.block
-        if not data or len(data) % block:
-            raise ValueError(f"{len(data)} bytes aren't one or more blocks of {block}")
-        return len(data) // block
-
-    def _transfers(self, data: bytes) -> List[bytes]:
-        """Whole blocks in pieces, which one command takes."""
-        self._blocks(data)
-        return [data[at : at + MOST_TRANSFER] for at in range(0, len(data), MOST_TRANSFER)]
-
-    def _send(self, action: _Action, zone: Optional[int]) -> None:
-        """Zone Management Send: takes an action on a zone, or on all."""
-        if zone is None:
-            self._do(_Opcode.ZONE_MANAGEMENT_SEND, 0, 0, action | _SELECT_ALL)
-        else:
-            self._do(_Opcode.ZONE_MANAGEMENT_SEND, zone, 0, action)
-
-    def _do(self, opcode: _Opcode, *dwords: int, data: bytes = b"") -> _Completion:
-        """Submits an entry, and gives its completion, which has to tell success."""
-        return self._completion_of(self._submit(opcode, *dwords, data=data))
+    # ---- requests, and what answers them
 
     def _submit(self, opcode: _Opcode, *dwords: int, data: bytes = b"") -> _Asked:
         """Submits an entry with an identifier of its own."""
@@ -1297,8 +1380,6 @@ class Device:
         self._identifier = identifier
         self._stream.push()
         return asked
-
-    # ---- requests, and what answers them
 
     def _ask(
         self,
@@ -1314,12 +1395,6 @@ class Device:
         self._stream.send(request, part, queue, number, entry, data)
         self._under_way.append(asked)
         return asked
-
-    def _completion_of(self, asked: _Asked) -> _Completion:
-        """Waits for a command's completion, which has to tell success."""
-        completion = self._answer_of(asked).completion
-        assert completion is not None
-        return completion
 
     def _answer_of(self, asked: _Asked) -> _Frame:
         """Waits for what answers a request. If that is a refusal, it is raised."""
@@ -1366,29 +1441,8 @@ class Device:
                 run._result = Result(completion.dword0, completion.dword1)
                 self._ended[run._slot] = run
 
-    # ---- programs that were linked
 
-    def _fitting_notes(self, program: FilePath, data: bytes, emit: int) -> Optional[_Notes]:
-        """The notes beside a program's file, which have to be for this device's blocks and this limit."""
-        notes, name = _notes_beside(program, data), os.fspath(program)
-        if notes is not None and notes.block != self.geometry.block:
-            raise LinkedOtherwise(f"{name} was linked for blocks of {notes.block} bytes, and the device has {self.geometry.block}")
-        if notes is not None and notes.emit not in (None, emit):
-            raise LinkedOtherwise(f"{name} was linked to emit at most {notes.emit} bytes for a block, and not {emit}")
-        return notes
-
-    def _guard_of(self, run: Run, notes: _Notes, guard_at: int, result: Result) -> Optional[GuardEnded]:
-        """The guard that ended one of a run's blocks, as the scratch says that the run left, if it is still there."""
-        if self._ended.get(run._slot) is not run:
-            return None
-        number, slot, block = _ENDED.unpack_from(self.result(run._slot), guard_at)
-        guard = notes.guards.get(number)
-        if guard is None or guard.slot != slot:
-            return None
-        return GuardEnded(guard.place, guard.text, block, slot, result)
-
-
-def query_all(devices: Sequence[Device], zone: Union[int, Sequence[int]], layout: Any, where: str, **words: Any) -> Any:
+def query_all(devices: Sequence[Any], zone: Union[int, Sequence[int]], layout: Any, where: str, **words: Any) -> Any:
     """Asks several devices one question side by side, in calls of the executor that the word `executor` gives: `query_all` of
     pifnjarl_query.py, which says more."""
     from pifnjarl_query import query_all as ask_all

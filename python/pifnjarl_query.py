@@ -1,7 +1,7 @@
 """Questions about the records of a zone, which programs on a device of pifnjarl.py answer beside the data.
 
-`Device.query` asks one device, and `query_all` several side by side. The condition, the layout and the words are those of
-`zscli query`, which makes the programs and whose sentences a wrong question gets.
+`query` asks one device, and `query_all` several side by side. The condition, the layout and the words are those of `zscli query`,
+which makes the programs, and whose sentences a wrong question gets.
 
     >>> with example() as device:
     ...     device.query(0, LAYOUT, "region == 3", select=["order", "price"])
@@ -10,17 +10,19 @@
     ...     device.query(0, LAYOUT, "region == arg", argument=3, count=True, sum="price", least="price")
     Tallies(count=2, sum=420, least=20, greatest=None)
 
-A layout is the text of a layout file, its path, a dict with the type and the offset of each name, or a dtype of numpy; of a dtype the rows
-are an array of that dtype.
+A layout is the text of a layout file, its path, a list of fields, each with its name, its type and its offset, or a dtype of numpy; of a
+dtype the rows are an array of that dtype.
 
 What a question takes of a device: an Empty zone, which is open meanwhile and Empty again at the end, and free slots, of which there is
-one at least. A program stays in its slot, since no command removes one; the next question takes the same slots. To open the zone, the
-device may close one that is implicitly open. Where an exception leaves a run active, as Ctrl-C can, its zone isn't reset.
+one at least. A program stays in its slot, since no command removes one; the next question of the same device takes the same slots. To
+open the zone, the device may close one that is implicitly open. Where an exception leaves a run active, as Ctrl-C can, its zone isn't
+reset.
 """
 
 from __future__ import annotations
 
 import importlib
+import json
 import os
 import re
 import struct
@@ -30,14 +32,18 @@ import tempfile
 from collections import namedtuple
 from concurrent.futures import Executor, wait
 from contextlib import contextmanager, suppress
+from dataclasses import dataclass
 from pathlib import Path
-from typing import Any, Callable, Dict, Iterator, List, Mapping, NamedTuple, Optional, Sequence, Tuple, Union
+from typing import Any, Callable, ContextManager, Dict, Iterable, Iterator, List, Mapping, NamedTuple, Optional, Sequence, Tuple, Union
 
 import pifnjarl
-from pifnjarl import Device, DeviceError, FilePath, Zone, ZoneState
+from pifnjarl import Commands, Device, DeviceError, FilePath, Zone, ZoneState
 
-Layout = Union[FilePath, Mapping[str, Tuple[str, int]], Any]
-"""The text of a layout file, its path, a dict with the type and the offset of each name, or a dtype of numpy."""
+Field = Sequence[Any]
+"""A field of a layout: its name, its type and its offset; without an offset it begins where the field before it ends."""
+
+Layout = Union[FilePath, Sequence[Field], Any]
+"""The text of a layout file, its path, a list of fields, or a dtype of numpy."""
 
 # ---- errors, each with one sentence
 
@@ -45,7 +51,8 @@ Layout = Union[FilePath, Mapping[str, Tuple[str, int]], Any]
 class QuestionRefused(DeviceError):
     """The question can't be asked. The text is the sentence of `zscli query`.
 
-    >>> Question(LAYOUT, "regon == 3", block=512)
+    >>> with example() as device:
+    ...     device.query(0, LAYOUT, "regon == 3")
     Traceback (most recent call last):
     pifnjarl_query.QuestionRefused: --where, column 1: the layout has no field of this name; without a name a field is written as u32@8
       regon == 3
@@ -54,15 +61,63 @@ class QuestionRefused(DeviceError):
 
 
 class NoZoneFree(DeviceError):
-    """No zone is Empty for what the programs append, or the one that is named isn't."""
+    """No zone can be opened for what the programs append."""
 
 
 class NoSlotFree(DeviceError):
-    """Each slot has a program of others."""
+    """Each slot has a program that was loaded otherwise."""
 
 
 class AnswerDamaged(DeviceError):
     """What the device appended aren't the records that its run counted."""
+
+
+# ---- words
+
+
+class _Tally(NamedTuple):
+    """What is done with a tally: how its value is had of its word in scratch, and how the values of several runs come to one."""
+
+    value: Callable[[int], int]
+    joined: Callable[[Iterable[int]], int]
+
+
+def _total(numbers: Iterable[int]) -> int:
+    """A sum modulo 2^64."""
+    return sum(numbers) % 2**64
+
+
+# the words by which records are tallied, in the order of their words in scratch, which docs/command_line.md has
+_TALLIES = {
+    "count": _Tally(int, _total),
+    "sum": _Tally(int, _total),
+    "least": _Tally(lambda word: 2**64 - 1 - word, min),
+    "greatest": _Tally(int, max),
+}
+
+# all words of `zscli query` that say what is wanted
+_WORDS = ("select", *_TALLIES)
+
+
+def _options(words: Mapping[str, Any]) -> List[str]:
+    """The options of `zscli query` for words.
+
+    >>> _options({"select": ["order", "price"], "sum": None}), _options({"count": True, "least": "price"})
+    (['--select=order,price'], ['--count', '--least=price'])
+    """
+    found = []
+    for name, value in words.items():
+        if name not in _WORDS:
+            raise TypeError(f"a question has no word {name!r}; its words are {', '.join(_WORDS)}")
+        if value is None or value is False:
+            continue
+        if (value is True) != (name == "count"):
+            raise TypeError("count is True or False" if name == "count" else f"{name} wants the name of a field")
+        fields = value if value is True or isinstance(value, str) else ",".join(value)
+        if not fields:
+            raise ValueError(f"{name} names no field")
+        found.append(f"--{name}" if value is True else f"--{name}={fields}")
+    return found
 
 
 # ---- layouts
@@ -79,28 +134,29 @@ class Column(NamedTuple):
     offset: int
 
 
-def layout_of(
-    fields: Union[Mapping[str, Tuple[str, int]], Any], *, size: Optional[int] = None, first: int = 0, count: Optional[int] = None
-) -> str:
-    """The text of a layout file, of a dict or a dtype. A record has `size` bytes: without it as many as the dtype, or as the fields
-    of the dict take. `first` bytes of a block come before its first record, and `count` records are in a block: without it as many as fit.
+def layout_of(layout: Union[Sequence[Field], Any], *, size: Optional[int] = None, first: int = 0, count: Optional[int] = None) -> str:
+    """The text of a layout file, of a list of fields or a dtype. A record has `size` bytes: without it as many as the dtype, or as the
+    fields take. `first` bytes of a block come before its first record, and `count` records are in a block: without it as many as fit.
 
-    >>> print(layout_of({"order": ("text8", 0), "region": ("u32", 8)}, size=64, count=1), end="")
+    >>> print(layout_of([("order", "text8"), ("region", "u32")], size=64, count=1), end="")
     records 64 from 0 count 1
     order text8 @0
     region u32 @8
     """
-    dtype: Any = fields if _is_dtype(fields) else None
-    named: Dict[str, Tuple[str, int]] = dict(fields) if dtype is None else _fields_of_dtype(dtype)
-    for name, (kind, _) in named.items():
+    dtype: Any = layout if _is_dtype(layout) else None
+    placed, end = [], 0
+    for name, kind, *offsets in layout if dtype is None else _fields_of_dtype(dtype):
         if not re.fullmatch(r"[A-Za-z_]\w*", name, re.ASCII):
             raise ValueError(f"{name!r} is no name of a field: letters, digits and _, no digit first")
         if not re.fullmatch(r"\w+", kind, re.ASCII):
             raise ValueError(f"{kind!r} is no type of a field, as u32, i16be, text8 and bytes12 are")
+        [offset] = offsets or [end]
+        end = offset + _bytes_of(kind)
+        placed.append((name, kind, offset))
     if size is None:
-        size = max((offset + _bytes_of(kind) for kind, offset in named.values()), default=0) if dtype is None else dtype.itemsize
+        size = max((offset + _bytes_of(kind) for _, kind, offset in placed), default=0) if dtype is None else dtype.itemsize
     several = "" if count is None else f" count {count}"
-    lines = [f"{name} {kind} @{offset}\n" for name, (kind, offset) in named.items()]
+    lines = [f"{name} {kind} @{offset}\n" for name, kind, offset in placed]
     return f"records {size} from {first}{several}\n" + "".join(lines)
 
 
@@ -122,11 +178,11 @@ def _is_dtype(layout: object) -> bool:
     return numpy is not None and isinstance(layout, numpy.dtype)
 
 
-def _fields_of_dtype(dtype: Any) -> Dict[str, Tuple[str, int]]:
-    """The type and the offset of each field of a dtype. What is neither a number without a point nor text is bytes."""
+def _fields_of_dtype(dtype: Any) -> List[Field]:
+    """The fields of a dtype. What is neither a number without a point nor text is bytes."""
     if dtype.names is None:
         raise ValueError(f"{dtype!r} has no fields")
-    return {name: (_kind_of_dtype(dtype.fields[name][0]), dtype.fields[name][1]) for name in dtype.names}
+    return [(name, _kind_of_dtype(dtype.fields[name][0]), dtype.fields[name][1]) for name in dtype.names]
 
 
 def _kind_of_dtype(dtype: Any) -> str:
@@ -137,19 +193,29 @@ def _kind_of_dtype(dtype: Any) -> str:
     return f"{'text' if dtype.kind == 'S' else 'bytes'}{dtype.itemsize}"
 
 
-def _is_text(layout: str) -> bool:
-    """Is it the text of a layout, and no path? It has lines, or begins with `records`.
+def _text_of(layout: Layout) -> Tuple[str, str]:
+    """The name of a layout's file, which the sentences of `zscli` have, and its text. A text has lines, or begins with `records`; another
+    one is a path.
 
-    >>> _is_text("records 64"), _is_text("orders.layout")
-    (True, False)
+    >>> _text_of("records 64")
+    ('layout', 'records 64')
     """
-    return "\n" in layout or layout.split()[:1] == ["records"]
+    if isinstance(layout, str) and ("\n" in layout or layout.split()[:1] == ["records"]):
+        return "layout", layout
+    if not isinstance(layout, (str, os.PathLike)):
+        return "layout", layout_of(layout)
+    path = Path(layout)
+    try:
+        return path.name, path.read_text(encoding="utf-8")
+    except OSError as error:
+        raise DeviceError(f"{layout}: {(error.strerror or str(error)).lower()}; name a layout file, or give its text") from None
 
 
 # ---- what comes of a question
 
 
-class Tallies(NamedTuple):
+@dataclass(frozen=True)
+class Tallies:
     """What the records that match come to: how many they are, and of a field that was asked for the sum modulo 2^64, and the least and
     the greatest value, of which there is none for no record."""
 
@@ -167,15 +233,20 @@ class _Rows:
     """Records, of which columns are wanted. A piece of the answer is the bytes of records, from the first column to the end of the last."""
 
     appends = True
+    form = "--raw"
 
     def __init__(self, columns: List[Column]) -> None:
         self.columns = columns
         self.offset = min(column.offset for column in columns)
         self.size = max(column.offset + column.size for column in columns) - self.offset
 
-    def piece(self, device: Device, slot: int, lba: int, done: pifnjarl.Result) -> bytes:
+    def piece(self, device: Commands, slot: int, lba: int, done: pifnjarl.Result) -> bytes:
         """What a run appended from an LBA on."""
         return unpacked(device.read(lba, done.blocks), device.geometry.block, self.size, done.records)
+
+    def printed(self, text: bytes) -> bytes:
+        """What `zscli query` printed in this form."""
+        return text
 
     def answer(self, pieces: Sequence[Any]) -> Any:
         """A row for each record."""
@@ -210,33 +281,56 @@ class _Array(_Rows):
 
 
 class _Tallied:
-    """Tallies, of which the first is always the count. A piece of the answer are the words that a run left in scratch: docs/command_line.md
-    says which."""
+    """Tallies. A piece of the answer is those of a run."""
 
     appends = False
+    form = "--json"
 
-    def __init__(self, tallies: List[str]) -> None:
-        """`tallies` has the names of those after the count."""
-        self.tallies = tallies
+    def __init__(self, names: List[str]) -> None:
+        """The names begin with the count."""
+        self.names = names
 
-    def piece(self, device: Device, slot: int, lba: int, done: pifnjarl.Result) -> Tuple[int, ...]:
+    def piece(self, device: Commands, slot: int, lba: int, done: pifnjarl.Result) -> Tallies:
         """What a run left in scratch."""
-        return struct.unpack_from(f"<{1 + len(self.tallies)}Q", device.result(slot))
+        words = struct.unpack_from(f"<{len(self.names)}Q", device.result(slot))
+        # a count of 0 stands for 2^64 records too, which no device has
+        return self._of([_TALLIES[name].value(word) for name, word in zip(self.names, words)], words[0] == 0)
+
+    def printed(self, text: bytes) -> Tallies:
+        """What `zscli query` printed in this form: one row, whose columns are these."""
+        [row] = json.loads(text)
+        return Tallies(**dict(zip(self.names, row.values())))
 
     def answer(self, pieces: Sequence[Any]) -> Tallies:
-        """The tallies of all pieces."""
-        names = ["count", *self.tallies]
-        words = dict(zip(names, zip((0,) * len(names), *pieces)))
-        found: Dict[str, Optional[int]] = {
-            name: max(words[name]) if name in ("least", "greatest") else sum(words[name]) % 2**64 for name in self.tallies
-        }
-        count = sum(words["count"]) % 2**64
-        # the word of the least has it subtracted from 2^64 - 1
-        if "least" in found:
-            found["least"] = 2**64 - 1 - max(words["least"])
-        if count == 0:
-            found.update(least=None, greatest=None)
-        return Tallies(count, **found)
+        """The tallies of all runs."""
+        columns = [[value for piece in pieces if (value := getattr(piece, name)) is not None] for name in self.names]
+        joined = [_TALLIES[name].joined(values or [0]) for name, values in zip(self.names, columns)]
+        return self._of(joined, not any(piece.count for piece in pieces))
+
+    def _of(self, values: Sequence[int], is_none: bool) -> Tallies:
+        """Tallies of these values; of no record there is no least and no greatest."""
+        named: Dict[str, Any] = dict(zip(self.names, values))
+        if is_none:
+            named.update({name: None for name in ("least", "greatest") if name in named})
+        return Tallies(**named)
+
+
+class Part(NamedTuple):
+    """A part of an answer, which `joined` puts together with others."""
+
+    answers: Union[_Rows, _Tallied]
+    pieces: List[Any]
+
+
+def joined(parts: Sequence[Part]) -> Any:
+    """The answer of its parts, in their order: rows one after another, or the tallies of all.
+
+    >>> question = Question(LAYOUT, "region == 1", select=["price"])
+    >>> with example() as one, example() as other:
+    ...     joined([question.part(one, 0), question.part(other, 0)])
+    [Row(price=3), Row(price=3)]
+    """
+    return parts[0].answers.answer([piece for part in parts for piece in part.pieces])
 
 
 def unpacked(appended: bytes, block: int, size: int, count: int) -> bytes:
@@ -249,16 +343,18 @@ def unpacked(appended: bytes, block: int, size: int, count: int) -> bytes:
     Traceback (most recent call last):
     pifnjarl_query.AnswerDamaged: the run emitted 3 records, and the blocks that it appended have 2
     """
-    found = []
+    # a record has its length before it, in two bytes, the lower first
+    length = re.escape(size.to_bytes(2, "little"))
+    record = re.compile(length + b"(.{%d})" % size, re.S)
+    records = re.compile(b"(?:%s.{%d})*" % (length, size), re.S)
+    found: List[bytes] = []
     for start in range(0, len(appended), block):
-        at, end = start, start + block
-        while at + 2 <= end and (length := int.from_bytes(appended[at : at + 2], "little")):
-            if length != size or at + 2 + size > end:
-                raise AnswerDamaged(f"byte {at} of what was appended begins no record of {size} bytes")
-            found.append(appended[at + 2 : at + 2 + size])
-            at += 2 + size
+        end = start + block
+        front = records.match(appended, start, end)
+        at = start if front is None else front.end()
         if appended.count(0, at, end) != end - at:
-            raise AnswerDamaged(f"from byte {at} to {end} of what was appended there is more than zeros")
+            raise AnswerDamaged(f"from byte {at} on there is neither a record of {size} bytes nor zeros to the end of its block")
+        found += record.findall(appended, start, at)
     if len(found) != count:
         raise AnswerDamaged(f"the run emitted {count} records, and the blocks that it appended have {len(found)}")
     return b"".join(found)
@@ -301,107 +397,184 @@ class _Program(NamedTuple):
     emit: int
 
 
+class _Compiled(NamedTuple):
+    """What a question comes to for blocks of one size: its programs, and what comes of them."""
+
+    programs: List[_Program]
+    answers: Union[_Rows, _Tallied]
+
+
 _SELECT = re.compile(r"^select: (.*)$", re.M)
 _COLUMN = re.compile(r"(\w+) (u|i|text|bytes)(\d+)(be)? @(\d+)")
 _PROGRAM = re.compile(r"^program: .* \(--emit (\d+)\)$", re.M)
 
 
 class Question:
-    """A question, with its programs for blocks of one size. It can be asked of each zone of each device that has such blocks.
+    """A question, which can be asked of each zone of each device. Its programs are made when a device with blocks of a size is asked
+    first.
 
-    >>> question = Question(LAYOUT, "region == arg", block=512, count=True)
+    >>> question = Question(LAYOUT, "region == arg", count=True)
     >>> with example() as device:
     ...     [question.ask(device, 0, argument=region).count for region in (1, 2, 3)]
     [1, 0, 2]
     """
 
-    def __init__(
-        self,
-        layout: Layout,
-        where: str,
-        *,
-        block: int,
-        select: Optional[Sequence[str]] = None,
-        count: bool = False,
-        sum: Optional[str] = None,
-        least: Optional[str] = None,
-        greatest: Optional[str] = None,
-        numpy: bool = False,
-        program: Optional[FilePath] = None,
-    ) -> None:
-        """`program` is `zscli`, which makes the programs. Of a wrong question it raises `QuestionRefused`."""
-        selected = select if select is None or isinstance(select, str) else ",".join(select)
-        given = {"select": selected, "sum": sum, "least": least, "greatest": greatest}
-        fields = {name: field for name, field in given.items() if field is not None}
-        if "" in fields.values():
-            raise ValueError("one field at least has to be named")
-        words = [f"--block={block}", f"--where={where}", *(f"--{name}={field}" for name, field in fields.items())]
-        words += ["--count"] if count else []
-        tallies = [name for name in fields if name != "select"]
-        self.block = block
-        with tempfile.TemporaryDirectory() as folder:
-            named = [pifnjarl.zscli(program), "query", f"--layout={_layout_file(layout, Path(folder))}", *words]
-            told = _told(named + ["--explain"], folder)
-            self._programs = [
-                _Program(_written(named, Path(folder), part), int(emit)) for part, emit in enumerate(_PROGRAM.findall(told))
-            ]
-        self._answers = _answers(told, tallies, layout if _is_dtype(layout) else None, numpy, select is None)
+    def __init__(self, layout: Layout, where: str, *, numpy: bool = False, program: Optional[FilePath] = None, **words: Any) -> None:
+        """The words are `select`, with a name of a field or several, `count=True`, and `sum`, `least` and `greatest`, each with a name.
+        `program` is `zscli`, which makes the programs."""
+        self._file, self._text = _text_of(layout)
+        self._dtype: Any = layout if _is_dtype(layout) else None
+        self._numpy, self._zscli = numpy, program
+        if any(words.get(name) for name in _TALLIES):
+            # how many records match says whether there is a least and a greatest, also of several answers
+            words = {**words, "count": words.get("count") or True}
+        self._options = [f"--where={where}", *_options(words)]
+        self._names = [name for name in _TALLIES if words.get(name)]
+        self._is_whole = words.get("select") is None
+        self._compiled: Dict[int, _Compiled] = {}
+
+    def compile(self, block: int) -> None:
+        """Makes the programs for blocks of so many bytes, if they aren't there yet. Of a wrong question it raises `QuestionRefused`."""
+        if block not in self._compiled:
+            told = self._told(f"--block={block}", "--explain")
+            programs = [_Program(self._program(block, part), int(emit)) for part, emit in enumerate(_PROGRAM.findall(told))]
+            self._compiled[block] = _Compiled(programs, self._answers(told))
 
     def ask(
-        self, device: Device, zone: int, *, blocks: Optional[int] = None, argument: int = 0, into: Optional[int] = None
+        self,
+        device: Commands,
+        zone: int,
+        *,
+        blocks: Optional[int] = None,
+        argument: int = 0,
+        into: Optional[int] = None,
+        slots: Optional[Sequence[int]] = None,
     ) -> Any:
-        """Asks about the written blocks of a zone, or the first of them, and gives the answer: see `Device.query`."""
-        return self.join([self.pieces(device, zone, blocks=blocks, argument=argument, into=into)])
+        """Asks about the written blocks of a zone, or the first of them, and gives the answer: see `Commands.query`."""
+        return joined([self.part(device, zone, blocks=blocks, argument=argument, into=into, slots=slots)])
 
-    def pieces(
-        self, device: Device, zone: int, *, blocks: Optional[int] = None, argument: int = 0, into: Optional[int] = None
-    ) -> List[Any]:
-        """Asks as `ask` does, and gives the pieces of the answer, which `join` puts together with those of other zones and devices.
-
-        >>> question = Question(LAYOUT, "region == 1", block=512, select=["price"])
-        >>> with example() as one, example() as other:
-        ...     question.join([question.pieces(one, 0), question.pieces(other, 0)])
-        [Row(price=3), Row(price=3)]
-        """
-        if device.geometry.block != self.block:
-            raise ValueError(f"the question is for blocks of {self.block} bytes, and the device has {device.geometry.block}")
-        if blocks is not None and blocks < 1:
-            raise ValueError(f"a question is about 1 block or more, and not about {blocks}")
+    def part(
+        self,
+        device: Commands,
+        zone: int,
+        *,
+        blocks: Optional[int] = None,
+        argument: int = 0,
+        into: Optional[int] = None,
+        slots: Optional[Sequence[int]] = None,
+    ) -> Part:
+        """Asks as `ask` does, and gives the answer as a part of that of several zones and devices."""
+        self.compile(device.geometry.block)
+        compiled = self._compiled[device.geometry.block]
         zones = device.report()
         source = next((other for other in zones if other.start == zone), None)
         if source is None:
             raise ValueError(f"{zone} is the lowest LBA of no zone")
+        _check_blocks(blocks)
         if blocks is None and source.write_pointer is not None:
             blocks = source.write_pointer - source.start
         if blocks == 0:
-            return []
-        appends = self._answers.appends
-        asking = _Asking(device, self._programs, argument, source, _answer_zone(zones, source, into, appends))
+            return Part(compiled.answers, [])
+        appends = compiled.answers.appends
+        to = _answer_zone(zones, source, into, appends)
+        asking = _Asking(device, compiled.programs, argument, source, to, _slots(device, len(compiled.programs), slots))
         if blocks is None:
             blocks = asking.written()
         with asking.opened():
-            return [self._answers.piece(device, *run) for run in asking.runs(blocks, appends)]
+            return Part(compiled.answers, [compiled.answers.piece(device, *run) for run in asking.runs(blocks, appends)])
 
-    def join(self, answers: Sequence[List[Any]]) -> Any:
-        """The answer of pieces of answers, in their order."""
-        return self._answers.answer([piece for pieces in answers for piece in pieces])
+    def part_of_image(self, image: FilePath, zone: int, *, blocks: Optional[int] = None, argument: int = 0) -> Part:
+        """The same of an image or a journal that no program has: `zscli query` asks a device in memory, and the file stays as it is.
+
+        >>> with tempfile.TemporaryDirectory() as folder:
+        ...     image = Path(folder) / "zoned.img"
+        ...     geometry = pifnjarl.format_image(image)
+        ...     joined([Question(LAYOUT, "price != 0", count=True).part_of_image(image, 64)])
+        Tallies(count=0, sum=None, least=None, greatest=None)
+        """
+        geometry = pifnjarl.geometry_of(image)
+        number, rest = divmod(zone, geometry.zone_size)
+        if rest or not 0 <= number < geometry.zones:
+            raise ValueError(f"{zone} is the lowest LBA of no zone of {os.fspath(image)}")
+        _check_blocks(blocks)
+        answers = self._answers(self._told(f"--block={geometry.block}", "--explain"))
+        first = [] if blocks is None else [f"--blocks={blocks}"]
+        words = [f"--zone={number}", f"--argument={argument}", *first, answers.form]
+        return Part(answers, [answers.printed(self._printed(*words, os.path.abspath(image)))])
+
+    def _answers(self, told: str) -> Union[_Rows, _Tallied]:
+        """What comes of the question, by what `zscli` says of it."""
+        selected = _SELECT.search(told)
+        if selected is None:
+            return _Tallied(self._names)
+        columns = [
+            Column(name, kind, int(number) // (8 if kind in ("u", "i") else 1), big == "be", int(offset))
+            for name, kind, number, big, offset in _COLUMN.findall(selected[1])
+        ]
+        if self._dtype is not None or self._numpy:
+            return _Array(columns, self._dtype, self._dtype is not None and self._is_whole)
+        return _Rows(columns)
+
+    def _program(self, block: int, part: int) -> bytes:
+        """The bytes of one of the programs."""
+        with tempfile.TemporaryDirectory() as folder:
+            file = Path(folder) / "program"
+            self._told(f"--block={block}", f"--program={file}", f"--part={part}")
+            return file.read_bytes()
+
+    def _told(self, *words: str) -> str:
+        """What `zscli query` says of the question."""
+        return self._printed(*words).decode()
+
+    def _printed(self, *words: str) -> bytes:
+        """What `zscli query` prints. A failure is raised, with its sentence, in which the layout has its file's name alone."""
+        with tempfile.TemporaryDirectory() as folder:
+            file = Path(folder) / self._file
+            file.write_text(self._text, encoding="utf-8")
+            asked = [pifnjarl.zscli(self._zscli), "query", f"--layout={file}", *self._options, *words]
+            ran = subprocess.run(asked, stdin=subprocess.DEVNULL, capture_output=True, check=False)
+        if ran.returncode == 0:
+            return ran.stdout
+        told = ran.stderr.decode(errors="replace").strip().replace(f"{folder}{os.sep}", "")
+        if ran.returncode == 3:
+            # the line at the end is for programs
+            raise QuestionRefused(told.rpartition("\n")[0])
+        raise DeviceError(told or f"zscli ended with status {ran.returncode}")
+
+
+def _check_blocks(blocks: Optional[int]) -> None:
+    """A question is about one block at least."""
+    if blocks is not None and blocks < 1:
+        raise ValueError(f"a question is about 1 block or more, and not about {blocks}")
+
+
+# ---- several devices
+
+Asked = Union[Commands, FilePath, Callable[[], ContextManager[Commands]]]
+"""What is asked: a device; the path of an image or a journal, whose file stays as it is; or what opens a device for `with`, as
+`functools.partial(pifnjarl.Device, "zoned.img", durable=True)`."""
 
 
 def query_all(
-    devices: Sequence[Device],
+    devices: Sequence[Asked],
     zone: Union[int, Sequence[int]],
     layout: Layout,
     where: str,
     *,
-    executor: Executor,
+    executor: Union[Executor, Any],
     blocks: Optional[int] = None,
     argument: int = 0,
+    slots: Optional[Sequence[int]] = None,
+    numpy: bool = False,
     program: Optional[FilePath] = None,
     **words: Any,
 ) -> Any:
-    """Asks several devices one question side by side, each in a call of an executor of threads, and gives one answer: rows in the order
-    of the devices, or the tallies of them all. The zone is one for all, or one for each; the words are those of `Device.query`. It ends
+    """Asks several devices one question side by side, each in a call of an executor, and gives one answer: rows in the order of the
+    devices, or the tallies of them all. The zone is one for all, or one for each; the words are those of `Commands.query`. It ends
     when all devices are done; if one fails, its error is raised, of several the first in the order of the devices.
+
+    An executor is one of `concurrent.futures`, or a `distributed.Client` of Dask. A device that is open can be asked in a thread of this
+    process alone; other processes and machines get an image's path, or a function that opens a device there, of a module that they have.
 
     >>> from concurrent.futures import ThreadPoolExecutor
     >>> with ThreadPoolExecutor() as executor, example() as one, example() as other:
@@ -411,65 +584,39 @@ def query_all(
     zones = [zone] * len(devices) if isinstance(zone, int) else list(zone)
     if not devices or len(zones) != len(devices):
         raise ValueError(f"{len(devices)} devices are asked about {len(zones)} zones")
-    if len({id(device) for device in devices}) != len(devices):
-        raise ValueError("a device is asked twice at a time")
-    sizes = {device.geometry.block for device in devices}
-    questions = {size: Question(layout, where, block=size, program=program, **words) for size in sizes}
+    opened = [device for device in devices if isinstance(device, Commands)]
+    if len({id(device) for device in opened}) != len(opened):
+        raise ValueError("a device is asked twice at a time; ask one after another, or name two devices")
+    question = Question(layout, where, numpy=numpy, program=program, **words)
+    for device in opened:
+        question.compile(device.geometry.block)
+    if hasattr(executor, "get_executor"):
+        # a client of Dask takes the same call for one that needn't be made again, if it isn't told
+        executor = executor.get_executor(pure=False)
     under_way = []
     try:
-        for device, its_zone in zip(devices, zones):
-            asked = questions[device.geometry.block].pieces
-            under_way.append(executor.submit(asked, device, its_zone, blocks=blocks, argument=argument))
+        for asked, its_zone in zip(devices, zones):
+            under_way.append(executor.submit(_part_of, question, asked, its_zone, blocks, argument, slots))
     finally:
         wait(under_way)
-    return questions[devices[0].geometry.block].join([done.result() for done in under_way])
+    return joined([done.result() for done in under_way])
 
 
-def _layout_file(layout: Layout, folder: Path) -> str:
-    """The path of a layout's file, which is made in a folder where there is none yet."""
-    if isinstance(layout, os.PathLike) or (isinstance(layout, str) and not _is_text(layout)):
-        return os.fspath(layout)
-    file = folder / "layout"
-    file.write_text(layout if isinstance(layout, str) else layout_of(layout), encoding="utf-8")
-    return str(file)
-
-
-def _told(words: List[str], folder: str) -> str:
-    """What zscli prints; a failure is raised, with its sentence, in which nothing is said of a folder."""
-    ran = subprocess.run(words, stdin=subprocess.DEVNULL, capture_output=True, check=False)
-    if ran.returncode == 0:
-        return ran.stdout.decode()
-    told = ran.stderr.decode(errors="replace").strip().replace(f"{folder}{os.sep}", "")
-    if ran.returncode == 3:
-        # the line at the end is for programs
-        raise QuestionRefused(told.rpartition("\n")[0])
-    raise DeviceError(told or f"zscli ended with status {ran.returncode}")
-
-
-def _written(words: List[str], folder: Path, part: int) -> bytes:
-    """The bytes of one of a question's programs."""
-    file = folder / "program"
-    _told([*words, f"--program={file}", f"--part={part}"], str(folder))
-    return file.read_bytes()
-
-
-def _answers(told: str, tallies: List[str], dtype: Any, numpy: bool, is_whole: bool) -> Union[_Rows, _Tallied]:
-    """What comes of a question, by what zscli says of it."""
-    selected = _SELECT.search(told)
-    if selected is None:
-        return _Tallied(tallies)
-    columns = [
-        Column(name, kind, int(number) // (8 if kind in ("u", "i") else 1), big == "be", int(offset))
-        for name, kind, number, big, offset in _COLUMN.findall(selected[1])
-    ]
-    if dtype is not None or numpy:
-        return _Array(columns, dtype, dtype is not None and is_whole)
-    return _Rows(columns)
+def _part_of(
+    question: Question, asked: Asked, zone: int, blocks: Optional[int], argument: int, slots: Optional[Sequence[int]]
+) -> Part:
+    """What one device answers. An executor may have this called in another process."""
+    if isinstance(asked, Commands):
+        return question.part(asked, zone, blocks=blocks, argument=argument, slots=slots)
+    if isinstance(asked, (str, os.PathLike)):
+        return question.part_of_image(asked, zone, blocks=blocks, argument=argument)
+    with asked() as device:
+        return question.part(device, zone, blocks=blocks, argument=argument, slots=slots)
 
 
 # ---- a device that is asked
 
-_SLOTS = 8
+_SLOTS = range(8)
 _MOST_BLOCKS = 65536
 _OPEN = (ZoneState.IMPLICITLY_OPENED, ZoneState.EXPLICITLY_OPENED)
 
@@ -490,11 +637,14 @@ def _answer_zone(zones: List[Zone], source: Zone, into: Optional[int], appends: 
 
 
 class _Asking:
-    """A device that is asked about a zone, with another one for what the programs append."""
+    """A device that is asked about a zone, with another one for what the programs append, and slots for them, which are one or more."""
 
-    def __init__(self, device: Device, programs: List[_Program], argument: int, source: Zone, to: Zone) -> None:
+    def __init__(self, device: Commands, programs: List[_Program], argument: int, source: Zone, to: Zone, slots: List[int]) -> None:
         self._device, self._programs, self._argument, self._source, self._to = device, programs, argument, source, to
-        self._slots: List[int] = []
+        self._slots = slots
+        if device._is_shared:
+            # whatever this one loaded before, another host may have loaded over it
+            device._question_slots = dict.fromkeys(device._question_slots)
         # how many blocks are appended since the zone was empty
         self._used = 0
 
@@ -527,7 +677,10 @@ class _Asking:
         if self._to.state != ZoneState.EMPTY:
             yield
             return
-        self._device.open(self._to.start)
+        try:
+            self._device.open(self._to.start)
+        except (pifnjarl.TooManyActiveZones, pifnjarl.TooManyOpenZones) as refused:
+            raise NoZoneFree("no more zones can be open for the answer; finish, close or reset one") from refused
         try:
             yield
         except BaseException:
@@ -538,7 +691,8 @@ class _Asking:
         self._device.reset(self._to.start)
 
     def runs(self, blocks: int, appends: bool) -> Iterator[Tuple[int, int, pifnjarl.Result]]:
-        """Runs the programs over so many blocks, and gives of each run that has ended the slot, where it began to append, and its result."""
+        """Runs the programs over so many blocks, and gives of each run that has ended the slot, where it began to append, and what it
+        came to."""
         # the records of several programs come in order where each run is over one block; what a run appends fits an empty zone, as no
         # program emits more than a block for one
         most = 1 if appends and len(self._programs) > 1 else _MOST_BLOCKS
@@ -555,18 +709,12 @@ class _Asking:
             self._device.reset(self._to.start)
             self._device.open(self._to.start)
             self._used = 0
-        run = self._device.run(slot, lba, blocks, to=self._to.start, argument=self._argument)
-        # a drain gives turns to each run that is active
-        if len(self._device._runs) == 1:
-            self._device.drain()
-        done = run.wait()
+        done = self._device._run_to_end(slot, lba, blocks, self._to.start, self._argument)
         at, self._used = self._to.start + self._used, self._used + done.blocks
         return slot, at, done
 
     def _held(self, index: int) -> int:
         """The slot of a program, which is loaded there where it isn't yet."""
-        if not self._slots:
-            self._slots = _free_slots(self._device, len(self._programs))
         slot, program = self._slots[index % len(self._slots)], self._programs[index]
         if self._device._question_slots.get(slot) != program:
             self._device.load(slot, program.code, emit=program.emit)
@@ -574,17 +722,22 @@ class _Asking:
         return slot
 
 
-def _free_slots(device: Device, most: int) -> List[int]:
-    """Slots for so many programs, or fewer: those that questions took before, and those that have no program, the highest first."""
+def _slots(device: Commands, most: int, named: Optional[Sequence[int]]) -> List[int]:
+    """Slots for so many programs, or fewer: of those that are named, or those that questions took before, and those that have no program,
+    the highest first."""
+    if named is not None:
+        if not named or not set(named) <= set(_SLOTS):
+            raise ValueError(f"slots={list(named)!r} names no slots from 0 to {_SLOTS[-1]}")
+        return list(dict.fromkeys(named))[:most]
     found = sorted(device._question_slots, reverse=True)[:most]
-    for slot in reversed(range(_SLOTS)):
+    for slot in reversed(_SLOTS):
         if len(found) < most and slot not in device._question_slots:
             try:
                 device.result(slot)
             except pifnjarl.NoSuchProgram:
                 found.append(slot)
     if not found:
-        raise NoSlotFree(f"each of the {_SLOTS} slots has a program, and a question needs one")
+        raise NoSlotFree(f"each of the {len(_SLOTS)} slots has a program, and a question needs one; name one to be replaced, as slots=[7]")
     return found
 
 

@@ -27,6 +27,7 @@ sys.path[:0] = [str(HERE), str(HERE / "examples")]
 import pifnjarl
 import scan
 import store
+import test_linux
 import test_page
 import test_query
 
@@ -804,8 +805,8 @@ class Examples(Over):
 
 
 def load_tests(loader: unittest.TestLoader, tests: unittest.TestSuite, pattern: object) -> unittest.TestSuite:
-    """The examples of docstrings are tests too, and so is what is tested of the page and of questions."""
-    for others in (test_page, test_query):
+    """The examples of docstrings are tests too, and so is what is tested of the page, of questions and of disks of Linux."""
+    for others in (test_page, test_query, test_linux):
         tests.addTests(loader.loadTestsFromModule(others))
     for module in (pifnjarl, store):
         tests.addTests(doctest.DocTestSuite(module))

@@ -10,15 +10,19 @@ import subprocess
 import sys
 import tempfile
 import unittest
-from concurrent.futures import ThreadPoolExecutor
+from concurrent.futures import ProcessPoolExecutor, ThreadPoolExecutor
+from functools import partial
 from pathlib import Path
 from typing import Any, Dict, List, NamedTuple, Tuple
 from unittest import mock
 
-sys.path.insert(0, str(Path(__file__).resolve().parent))
+HERE = Path(__file__).resolve().parent
+sys.path[:0] = [str(HERE), str(HERE.parent / "tests" / "random_questions")]
+import draw
 import pifnjarl
 import pifnjarl_query
 from pifnjarl import ZoneState
+from pifnjarl_query import Tallies
 
 LAYOUT = """\
 ; an order
@@ -31,7 +35,7 @@ word text8 @12
 """
 
 # the same without what comes after the fields, so that a record has 20 bytes
-FIELDS = {"number": ("u16", 0), "region": ("u8", 2), "price": ("u32", 4), "temperature": ("i16be", 8), "word": ("text8", 12)}
+FIELDS = [("number", "u16"), ("region", "u8"), ("price", "u32", 4), ("temperature", "i16be"), ("word", "text8", 12)]
 
 
 class Order(NamedTuple):
@@ -102,16 +106,16 @@ class Answers(Over):
         found = device.query(0, LAYOUT, "temperature < arg", argument=7, count=True, sum="price", least="price", greatest="number")
         wanted = [row for row in rows if row.temperature < 7]
         prices = [row.price for row in wanted]
-        self.assertEqual(found, (len(wanted), sum(prices), min(prices), max(row.number for row in wanted)))
+        self.assertEqual(found, Tallies(len(wanted), sum(prices), min(prices), max(row.number for row in wanted)))
         none = device.query(0, LAYOUT, "region == 9", sum="price", least="price", greatest="price")
-        self.assertEqual(none, pifnjarl_query.Tallies(0, 0, None, None))
-        self.assertEqual(device.query(0, LAYOUT, "region == 9", count=True), pifnjarl_query.Tallies(0))
+        self.assertEqual(none, Tallies(0, 0, None, None))
+        self.assertEqual(device.query(0, LAYOUT, "region == 9", count=True), Tallies(0))
         device.append(64, struct.pack("<2Q", 2**64 - 1, 5).ljust(512, b"\0"))
-        large = device.query(64, {"n": ("u64", 0)}, "n != 0", sum="n", least="n", greatest="n")
-        self.assertEqual(large, (2, 4, 5, 2**64 - 1))
+        large = device.query(64, [("n", "u64")], "n != 0", sum="n", least="n", greatest="n")
+        self.assertEqual(large, Tallies(2, 4, 5, 2**64 - 1))
 
     def test_a_layout_is_given_in_several_ways(self) -> None:
-        """As text, as a path, and as a dict."""
+        """As text, as a path, and as a list of fields, whose records are as long as these."""
         device = self.device()
         rows = orders(16 * 4)
         device.append(0, data(rows))
@@ -144,17 +148,20 @@ class Answers(Over):
         """Whole records of a full block are more than one program emits, and those of a full zone more than another one holds; also where
         one slot alone is free."""
         rows = orders(16 * 6)
-        question = pifnjarl_query.Question(LAYOUT + "rest bytes12 @20\n", "price > 1000", block=512)
-        self.assertGreater(len(question._programs), 1)
+        question = pifnjarl_query.Question(LAYOUT + "rest bytes12 @20\n", "price > 1000")
+        question.compile(512)
+        programs = len(question._compiled[512].programs)
+        self.assertGreater(programs, 1)
         for free in (8, 1):
             device = self.device(f"{free}.img", zone_size=8, zone_capacity=6)
             device.append(0, data(rows))
             for slot in range(free, 8):
                 device.load(slot, pifnjarl.EMITS_NOTHING, emit=0)
             self.assertEqual(question.ask(device, 0), [(*row, bytes(12)) for row in rows if row.price > 1000])
-            self.assertEqual(len(device._question_slots), min(free, len(question._programs)))
-        count = pifnjarl_query.Question(LAYOUT, " && ".join(f"price != {it}" for it in range(10)), block=16384, count=True)
-        self.assertGreater(len(count._programs), 1)
+            self.assertEqual(len(device._question_slots), min(free, programs))
+        count = pifnjarl_query.Question(LAYOUT, " && ".join(f"price != {it}" for it in range(10)), count=True)
+        count.compile(16384)
+        self.assertGreater(len(count._compiled[16384].programs), 1)
         wide = self.device("wide.img", block=16384)
         wide.append(0, data(orders(700), 16384))
         self.assertEqual(count.ask(wide, 0).count, 700)
@@ -195,6 +202,44 @@ class Answers(Over):
                 if device.report()[0].state == ZoneState.EMPTY:
                     device.append(0, data(rows))
                 self.assertEqual(device.query(0, LAYOUT, "region == 2"), [row for row in rows if row.region == 2])
+
+
+class Drawn(Over):
+    """Questions that are drawn, as tests/random_questions draws them."""
+
+    def test_what_python_gives_follows_from_the_definitions(self) -> None:
+        """Rows and tallies, of devices and of images; bytes are in hexadecimal there."""
+        for seed in range(1001, 1041):
+            drawn = draw.draw(seed)
+            for name, content in drawn.files.items():
+                (self.folder / name).write_bytes(content)
+            words: Dict[str, Any] = {"count": "--count" in drawn.words}
+            given = dict(zip(drawn.words, drawn.words[1:]))
+            words.update({name: given[f"--{name}"] for name in ("select", "sum", "least", "greatest") if f"--{name}" in given})
+            [where] = [word[len("--where=") :] for word in drawn.words if word.startswith("--where=")]
+            asked: Dict[str, Any] = {"argument": int(given.get("--argument", "0"))}
+            if "--blocks" in given:
+                asked["blocks"] = int(given["--blocks"])
+            zone = draw.ZONE * int(given["--zone"])
+            question = pifnjarl_query.Question(self.folder / "layout", where, **words)
+            with self.subTest(seed=seed, words=drawn.words):
+                if drawn.answer is None:
+                    with self.assertRaises(pifnjarl_query.QuestionRefused):
+                        question.part_of_image(self.folder / "zoned.img", zone)
+                    continue
+                try:
+                    of_image = pifnjarl_query.joined([question.part_of_image(self.folder / "zoned.img", zone, **asked)])
+                except pifnjarl_query.QuestionRefused as refused:
+                    self.assertRegex(str(refused), "needs more than 8 programs")
+                    continue
+                with pifnjarl.Device(self.folder / "zoned.img") as device:
+                    found = question.ask(device, zone, **asked)
+                self.assertEqual(found, of_image)
+                if isinstance(found, Tallies):
+                    rows = [[getattr(found, name.partition("(")[0]) for name in drawn.answer.names]]
+                else:
+                    rows = [[f"0x{cell.hex()}" if isinstance(cell, bytes) else cell for cell in row] for row in found]
+                self.assertEqual(rows, drawn.answer.rows)
 
 
 class Numpy(Over):
@@ -266,7 +311,7 @@ class Takes(Over):
     def test_a_program_is_loaded_once(self) -> None:
         device = self.device()
         device.append(0, data(orders(64)))
-        question = pifnjarl_query.Question(LAYOUT, "region == arg", block=512, count=True)
+        question = pifnjarl_query.Question(LAYOUT, "region == arg", count=True)
         with mock.patch.object(device, "load", wraps=device.load) as load:
             counts = [question.ask(device, 0, argument=region).count for region in range(6)]
         self.assertEqual((sum(counts), load.call_count), (64, 1))
@@ -297,27 +342,46 @@ class Takes(Over):
         with self.assertRaisesRegex(ValueError, "the lowest LBA of no zone"):
             device.query(1, LAYOUT, "number != 0")
 
-    def test_no_zone_and_no_slot_is_free(self) -> None:
+    def test_no_zone_is_free(self) -> None:
         """Tallies need no Empty zone, and a device without a zone that can be opened says so."""
         device = self.device()
         device.append(0, data(orders(64)))
         for zone in (64, 128, 192):
             device.append(zone, bytes(512))
-        with self.assertRaises(pifnjarl_query.NoZoneFree):
+        with self.assertRaisesRegex(pifnjarl_query.NoZoneFree, "reset one"):
             device.query(0, LAYOUT, "number != 0")
         self.assertEqual(device.query(0, LAYOUT, "number != 0", count=True).count, 64)
         device.finish(0)
         self.assertEqual(device.query(0, LAYOUT, "number != 0", count=True).count, 64)
         full = self.device("full.img", most_active=1)
         full.append(0, data(orders(64)))
-        with self.assertRaises(pifnjarl.TooManyActiveZones):
+        with self.assertRaisesRegex(pifnjarl_query.NoZoneFree, "no more zones can be open for the answer; finish, close or reset one"):
             full.query(0, LAYOUT, "number != 0")
-        slots = self.device("slots.img")
-        slots.append(0, data(orders(64)))
-        for slot in range(8):
-            slots.load(slot, pifnjarl.EMITS_NOTHING, emit=0)
-        with self.assertRaises(pifnjarl_query.NoSlotFree):
-            slots.query(0, LAYOUT, "number != 0")
+        full.finish(0)
+        self.assertEqual(len(full.query(0, LAYOUT, "number != 0")), 64)
+
+    def test_no_slot_is_free(self) -> None:
+        """Programs that were loaded stay, unless a slot is named whose program may be replaced: as by a device that is opened again, which
+        knows nothing of what questions left there."""
+        pifnjarl.format_image(self.folder / "kept.img")
+        for number in range(9):
+            with pifnjarl.Device(self.folder / "kept.img", durable=True) as device:
+                if number == 0:
+                    device.append(0, data(orders(64)))
+                if number < 8:
+                    self.assertEqual(device.query(0, LAYOUT, "number != 0", count=True).count, 64)
+                    self.assertEqual(list(device._question_slots), [7 - number])
+                    continue
+                with self.assertRaisesRegex(pifnjarl_query.NoSlotFree, r"name one to be replaced, as slots=\[7\]"):
+                    device.query(0, LAYOUT, "number != 0")
+                for _ in range(2):
+                    self.assertEqual(len(device.query(0, LAYOUT, "number != 0", slots=[3, 2])), 64)
+                self.assertEqual(list(device._question_slots), [3])
+                self.assertEqual(len(device.query(0, LAYOUT, "region == 2")), sum(row.region == 2 for row in orders(64)))
+                named: List[List[int]] = [[], [8], [-1, 3]]
+                for slots in named:
+                    with self.assertRaisesRegex(ValueError, "names no slots from 0 to 7"):
+                        device.query(0, LAYOUT, "number != 0", slots=slots)
 
     def test_a_failure_leaves_the_zone_empty(self) -> None:
         """And is the one that is raised."""
@@ -335,11 +399,11 @@ class Wrong(Over):
     def refused(self, layout: Any, where: str, **words: Any) -> str:
         """The sentence of a question that can't be asked."""
         with self.assertRaises(pifnjarl_query.QuestionRefused) as refused:
-            pifnjarl_query.Question(layout, where, block=512, **words)
+            pifnjarl_query.Question(layout, where, **words).compile(512)
         return str(refused.exception)
 
     def test_the_sentence_is_that_of_zscli(self) -> None:
-        """Of the condition, the fields and the layout."""
+        """Of the condition, the fields and the layout, whose file is named as the caller's is."""
         (self.folder / "layout").write_text(LAYOUT)
         line = [pifnjarl.zscli(), "query", "--block=512", f"--layout={self.folder / 'layout'}", "--explain"]
         cases: List[Tuple[str, List[str], Dict[str, Any]]] = [
@@ -348,34 +412,39 @@ class Wrong(Over):
             ("word == 3", [], {}),
             ("region == 3", ["--select=number,regon"], {"select": ["number", "regon"]}),
             ("region == 3", ["--select=number,"], {"select": ["number", ""]}),
-            ("region == 3", ["--sum=temperature"], {"sum": "temperature"}),
+            ("region == 3", ["--sum=word"], {"sum": "word"}),
             ("region == 3", ["--count", "--select=number"], {"count": True, "select": "number"}),
         ]
         for where, options, words in cases:
             ran = subprocess.run([*line, f"--where={where}", *options], capture_output=True, text=True, check=False)
             self.assertEqual((ran.returncode, ran.stderr), (3, self.refused(LAYOUT, where, **words) + "\nquestion refused\n"))
-        self.assertEqual(
-            self.refused("records 64\na u32 @62\n", "a == 3"), "layout, line 2: the field ends at byte 66, and a record at 64"
-        )
-        self.assertRegex(self.refused({"arg": ("u32", 0)}, "arg == 3"), "layout, line 2: a name is expected")
-        self.assertRegex(self.refused({"a": ("u33", 0)}, "a == 3"), "layout, line 2: .*a type is expected")
+        wrong = "records 64\na u32 @62\n"
+        (self.folder / "orders.layout").write_text(wrong)
+        for layout, name in ((wrong, "layout"), (self.folder / "orders.layout", "orders.layout")):
+            said = self.refused(layout, "a == 3")
+            self.assertEqual(said, f"{name}, line 2: the field ends at byte 66, and a record at 64")
+        self.assertRegex(self.refused([("arg", "u32")], "arg == 3"), "layout, line 2: a name is expected")
+        self.assertRegex(self.refused([("a", "u33")], "a == 3"), "layout, line 2: .*a type is expected")
         self.assertRegex(self.refused("records 600\n", "u8@0 == 3", count=True), "a block has 512 bytes; at most 0 fit")
 
     def test_what_is_no_question_is_refused_here(self) -> None:
-        """Names that no layout can have, no field, a file that isn't there, and a program that isn't."""
-        for fields in ({"a b": ("u32", 0)}, {"a": ("u32 @0\nb u8", 0)}):
+        """Names that no layout can have, words that aren't there or say nothing, and a file that isn't there."""
+        unnamed: List[List[Tuple[str, str]]] = [[("a b", "u32")], [("a", "u32 @0\nb u8")]]
+        for fields in unnamed:
             with self.assertRaisesRegex(ValueError, "is no (name|type) of a field"):
                 pifnjarl_query.layout_of(fields)
-        unnamed: List[Dict[str, Any]] = [{"select": []}, {"sum": ""}]
-        for words in unnamed:
-            with self.assertRaisesRegex(ValueError, "has to be named"):
-                pifnjarl_query.Question(LAYOUT, "number != 0", block=512, **words)
-        with self.assertRaisesRegex(pifnjarl.DeviceError, "none.layout: no such file"):
-            pifnjarl_query.Question("none.layout", "number != 0", block=512)
-        device = self.device(block=4096)
-        question = pifnjarl_query.Question(LAYOUT, "number != 0", block=512)
-        with self.assertRaisesRegex(ValueError, "for blocks of 512 bytes, and the device has 4096"):
-            question.ask(device, 0)
+        wrong: List[Tuple[Dict[str, Any], str]] = [
+            ({"select": []}, "select names no field"),
+            ({"sum": ""}, "sum names no field"),
+            ({"sum": True}, "sum wants the name of a field"),
+            ({"count": "price"}, "count is True or False"),
+            ({"total": "price"}, "a question has no word 'total'; its words are select, count, sum, least, greatest"),
+        ]
+        for words, said in wrong:
+            with self.assertRaisesRegex((TypeError, ValueError), said):
+                pifnjarl_query.Question(LAYOUT, "number != 0", **words)
+        with self.assertRaisesRegex(pifnjarl.DeviceError, "none.layout: no such file or directory; name a layout file"):
+            pifnjarl_query.Question("none.layout", "number != 0")
 
     def test_blocks_that_are_no_answer(self) -> None:
         """A record of another length, one that passes its block, bytes after the last, and too few or too many."""
@@ -401,32 +470,104 @@ class Wrong(Over):
 class Several(Over):
     """Questions to several devices."""
 
-    def devices(self) -> Tuple[List[pifnjarl.Device], List[List[Order]]]:
-        """Devices with blocks of two sizes, and what they have."""
-        found, rows = [], []
+    def setUp(self) -> None:
+        """Images with blocks of two sizes, and what they have."""
+        super().setUp()
+        self.images, self.rows = [], []
         for number, block in enumerate((512, 4096, 512, 4096, 512)):
-            found.append(self.device(f"{number}.img", block=block))
-            rows.append(orders(128 * (number + 1), seed=number))
-            found[-1].append(0, data(rows[-1], block))
-        return found, rows
+            self.images.append(self.folder / f"{number}.img")
+            self.rows.append(orders(128 * (number + 1), seed=number))
+            pifnjarl.format_image(self.images[-1], block=block)
+            with pifnjarl.Device(self.images[-1]) as device:
+                device.append(0, data(self.rows[-1], block))
 
-    def test_they_are_asked_side_by_side(self) -> None:
-        """Rows come in the order of the devices, and tallies are those of all."""
-        devices, rows = self.devices()
-        wanted = [row for its in rows for row in its if row.region == 4]
-        with ThreadPoolExecutor() as executor:
-            found = pifnjarl.query_all(devices, 0, LAYOUT, "region == 4", executor=executor)
-            tallies = pifnjarl.query_all(
-                devices, 0, LAYOUT, "region == arg", argument=4, executor=executor, sum="price", least="number", greatest="price"
-            )
-            first = pifnjarl.query_all(devices, [0] * 5, LAYOUT, "number != 0", executor=executor, blocks=1, count=True)
-        self.assertEqual(found, wanted)
+    def devices(self) -> List[pifnjarl.Device]:
+        """A device over each."""
+        found = []
+        for image in self.images:
+            found.append(pifnjarl.Device(image))
+            self.addCleanup(found[-1].shut)
+        return found
+
+    def ask(self, asked: List[Any], executor: Any) -> None:
+        """Rows come in the order of the devices, and tallies are those of all, also where some have no record that matches."""
+        wanted = [row for its in self.rows for row in its if row.region == 4]
         prices = [row.price for row in wanted]
-        self.assertEqual(tallies, (len(wanted), sum(prices), min(row.number for row in wanted), max(prices)))
-        self.assertEqual(first.count, 3 * 16 + 2 * 128)
+        self.assertEqual(pifnjarl.query_all(asked, 0, LAYOUT, "region == 4", executor=executor), wanted)
+        tallied: Dict[str, Any] = {"sum": "price", "least": "number", "greatest": "price"}
+        for where, argument in (("region == arg", 4), ("region == 4 && number < arg", 2**32 - 1)):
+            found = pifnjarl.query_all(asked, 0, LAYOUT, where, executor=executor, argument=argument, **tallied)
+            self.assertEqual(found, Tallies(len(wanted), sum(prices), min(row.number for row in wanted), max(prices)))
+        last = pifnjarl.query_all(asked, 0, LAYOUT, "number > 600", executor=executor, **tallied)
+        prices = [row.price for row in self.rows[4][600:]]
+        self.assertEqual(last, Tallies(40, sum(prices), 601, max(prices)))
+        none = pifnjarl.query_all(asked, 0, LAYOUT, "region == 9", executor=executor, **tallied)
+        self.assertEqual(none, Tallies(0, 0, None, None))
+        first = pifnjarl.query_all(asked, [0] * 5, LAYOUT, "number != 0", executor=executor, blocks=1, count=True)
+        self.assertEqual(first, Tallies(3 * 16 + 2 * 128))
+        other = pifnjarl.query_all(asked, [0, 64, 64, 64, 64], LAYOUT, "number != 0", executor=executor, select="number")
+        self.assertEqual(other, [(row.number,) for row in self.rows[0]])
+
+    def test_devices_are_asked_in_threads(self) -> None:
+        devices = self.devices()
+        with ThreadPoolExecutor() as executor:
+            self.ask(devices, executor)
+            asked = pifnjarl.query_all(devices, 0, LAYOUT, "number != 0", executor=executor, count=True, slots=[2])
+        self.assertEqual((asked.count, {tuple(device._question_slots) for device in devices}), (128 * 15, {(7, 2)}))
+
+    def test_images_are_asked_by_their_paths(self) -> None:
+        """A journal too; their files stay as they are."""
+        with pifnjarl.Device(self.images[3], durable=True) as device:
+            device.query(64, LAYOUT, "number != 0", count=True)
+        before = [image.read_bytes() for image in self.images]
+        with ThreadPoolExecutor() as executor:
+            self.ask([*self.images[:4], str(self.images[4])], executor)
+            with self.assertRaisesRegex(ValueError, "17 is the lowest LBA of no zone of .*0.img"):
+                pifnjarl.query_all(self.images, 17, LAYOUT, "number != 0", executor=executor)
+            (self.folder / "short.img").write_bytes(b"ZNSIMG02")
+            for name, said in (("none.img", "no such file or directory"), ("short.img", "neither an image nor a journal")):
+                with self.assertRaisesRegex(pifnjarl.DeviceError, f"{name}: {said}"):
+                    pifnjarl.query_all([self.folder / name], 0, LAYOUT, "number != 0", executor=executor)
+            with self.assertRaisesRegex(pifnjarl_query.QuestionRefused, "no field of this name"):
+                pifnjarl.query_all(self.images, 0, LAYOUT, "nr != 0", executor=executor)
+        self.assertEqual([image.read_bytes() for image in self.images], before)
+
+    def test_other_processes_are_asked(self) -> None:
+        """Of images, and of devices that they open."""
+        opening: List[Any] = [partial(pifnjarl.Device, image, durable=number == 1) for number, image in enumerate(self.images)]
+        with ProcessPoolExecutor(max_workers=2) as executor:
+            self.ask(list(self.images), executor)
+            self.ask([*self.images[:3], *opening[3:]], executor)
+            self.ask(opening, executor)
+            with self.assertRaises(pifnjarl_query.QuestionRefused):
+                pifnjarl.query_all(opening, 0, LAYOUT, "nr != 0", executor=executor)
+            with self.assertRaisesRegex(TypeError, "a device that is open can't go to another process"):
+                pifnjarl.query_all(self.devices(), 0, LAYOUT, "number != 0", executor=executor)
+
+    def test_a_cluster_is_asked(self) -> None:
+        """Of two processes, where Dask's distributed is installed."""
+        try:
+            distributed: Any = importlib.import_module("distributed")
+        except ImportError:
+            self.skipTest("there is no distributed here")
+        with distributed.LocalCluster(n_workers=2, threads_per_worker=1, dashboard_address=None, local_directory=self.folder) as cluster:
+            with distributed.Client(cluster) as client:
+                self.ask(list(self.images), client)
+                self.ask([partial(pifnjarl.Device, image) for image in self.images], client)
+
+    def test_rows_of_several_are_one_array(self) -> None:
+        """Where numpy is installed."""
+        try:
+            importlib.import_module("numpy")
+        except ImportError:
+            self.skipTest("there is no numpy here")
+        with ThreadPoolExecutor() as executor:
+            found = pifnjarl.query_all(self.images, 0, LAYOUT, "region == 4", executor=executor, numpy=True, select=["number", "price"])
+        wanted = [(row.number, row.price) for its in self.rows for row in its if row.region == 4]
+        self.assertEqual(found.tolist(), wanted)
 
     def test_one_that_fails_is_told_when_all_are_done(self) -> None:
-        devices, _ = self.devices()
+        devices = self.devices()
         devices[1].fault(0, ZoneState.OFFLINE)
         with ThreadPoolExecutor(max_workers=1) as executor:
             with mock.patch.object(executor, "submit", wraps=executor.submit) as submit:
@@ -436,7 +577,7 @@ class Several(Over):
         self.assertTrue(all(device.report()[1].state == ZoneState.EMPTY for device in devices))
 
     def test_what_is_asked_of_none_or_twice(self) -> None:
-        devices, _ = self.devices()
+        devices = self.devices()
         with ThreadPoolExecutor() as executor:
             asked: List[Tuple[List[pifnjarl.Device], Any]] = [([], 0), (devices, [0, 0]), (devices[:1] * 2, 0)]
             for some, zone in asked:

@@ -6,7 +6,7 @@
 # NQN is the name that the target prints. guest_session.sh is what it does with the disk; PROGRAM is the filter that it loads, or
 # examples/filter.bin, which `make -C examples filter.bin` makes. The image wants zones of a power of two of blocks, at least eight of
 # them, and 4 MiB of writable blocks in each for f2fs and btrfs. With GUEST_MULTIPATH=N Linux has no native multipath, and btrfs is tried
-# too. Wants apt, dpkg, gcc and qemu-system-x86 of Debian 12, and python3. What it downloads, 81 MB, it keeps in GUEST_CACHE. No part of
+# too. With GUEST_ZSCLI=PROGRAM, zscli, questions are asked from Python. Wants apt, dpkg, gcc and qemu-system-x86 of Debian 12, and python3. What it downloads, 81 MB, it keeps in GUEST_CACHE. No part of
 # the gate.
 set -eu
 port=$1
@@ -23,6 +23,7 @@ kernel_package() {
     apt-cache depends linux-image-amd64 | sed -n 's/^ *Depends: *\(linux-image-.*\)/\1/p' | head -n 1
 }
 packages='busybox-static nvme-cli util-linux mount f2fs-tools btrfs-progs
+    python3.11-minimal libpython3.11-minimal libpython3.11-stdlib libexpat1 libffi8
     libnvme1 libjson-c5 libdbus-1-3 libsystemd0 libssl3 zlib1g libuuid1 libblkid1 libselinux1 libsmartcols1
     liblzo2-2 libzstd1 libudev1 libc6'
 root=$cache/root
@@ -47,13 +48,20 @@ guest=$work/guest
 mkdir -p "$guest/bin" "$guest/dev" "$guest/etc/nvme" "$guest/lib64" "$guest/lib/x86_64-linux-gnu" "$guest/mnt" "$guest/proc" "$guest/sys" \
     "$guest/$modules"
 cp "$busybox" "$guest/bin/"
-tools='usr/sbin/nvme sbin/blkzone sbin/losetup sbin/mkfs.f2fs sbin/mkfs.btrfs'
-for tool in $tools; do cp "$root/$tool" "$guest/bin/"; done
+for tool in usr/sbin/nvme sbin/blkzone sbin/losetup sbin/mkfs.f2fs sbin/mkfs.btrfs; do cp "$root/$tool" "$guest/bin/"; done
+python=usr/lib/python3.11
+if [ -n "${GUEST_ZSCLI-}" ]; then
+    mkdir -p "$guest/${python%/*}" "$guest/tmp"
+    cp -R "$root/$python" "$guest/$python"
+    cp "$root/usr/bin/python3.11" "$guest/bin/"
+    cp "$GUEST_ZSCLI" "$guest/bin/zscli"
+    cp "$here"/../python/pifnjarl*.py "$here/guest_questions.py" "$guest/"
+fi
 cp "$root"/lib/x86_64-linux-gnu/ld-linux-x86-64.so.2 "$guest/lib64/"
 # the libraries that the tools name, and those that these name
 libraries() {
-    for tool in $tools; do
-        LD_LIBRARY_PATH=$root/usr/lib/x86_64-linux-gnu:$root/lib/x86_64-linux-gnu ldd "$guest/bin/${tool##*/}"
+    for file in "$guest"/bin/* "$guest/$python"/lib-dynload/_ctypes.*; do
+        LD_LIBRARY_PATH=$root/usr/lib/x86_64-linux-gnu:$root/lib/x86_64-linux-gnu ldd "$file" 2> /dev/null || true
     done
 }
 libraries | sed -n 's/.*=> \(\/[^ ]*\).*/\1/p' | sort -u | while read -r library; do

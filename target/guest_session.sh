@@ -71,6 +71,11 @@ shell "strings -n 10 /emitted.bin"
 shell "nvme io-passthru $disk --namespace-id=1 --opcode=0xc2 --cdw10=0 --data-len=1024 --read --raw-binary | wc -c"
 io --opcode=0xc0 --cdw10="$zone" --cdw12=$((5 << 16 | 4 - 1)) --cdw13=3 --cdw14=$((zone * 2))
 
+if [ -x /bin/zscli ]; then
+    echo "== questions from Python"
+    run /bin/python3.11 /guest_questions.py /dev/ng0n1 "$zone"
+fi
+
 # puts files on a file system, and finds them after it is mounted again: files KIND DISK
 files() {
     run mount -t "$1" "$2" /mnt

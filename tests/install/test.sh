@@ -296,7 +296,7 @@ assert pifnjarl.zscli() == sys.argv[2] + "/bin/zscli", pifnjarl.zscli()
 pifnjarl.format_image("module.img", block=512, zones=4, zone_size=64)
 with pifnjarl.Device("module.img") as device:
     assert device.read(device.append(64, bytes(512)), blocks=1) == bytes(512)
-    assert device.query(64, {"byte": ("u8", 0)}, "byte == 0", count=True).count == 512
+    assert device.query(64, [("byte", "u8")], "byte == 0", count=True).count == 512
 PYTHON
     rm -f module.img
     "$@" device.py "$work" "$a"

@@ -1,0 +1,367 @@
+"""Draws a question: a layout, blocks of records, a condition of each form of the language, and what is wanted of the records that match.
+
+docs/command_line.md has the language. What is drawn is at once the words of `zscli query` and a question of meaning.py, from which
+its answer follows.
+"""
+
+from __future__ import annotations
+
+import struct
+from random import Random
+from typing import Dict, List, NamedTuple, Optional, Sequence, Tuple
+
+import meaning
+from meaning import And, Argument, ByteRange, Bytes, Compare, Field, Not, Operand, Or, Predicate, Tally
+
+BLOCKS = (512, 1024, 2048, 4096, 8192, 16384)
+ZONES, ZONE = 3, 6
+COMPARISONS = ("==", "!=", "<", "<=", ">", ">=")
+LETTERS = b'aabc ,"\0\0\xff'
+
+
+class Column(NamedTuple):
+    """What a layout names: a type, an offset, how many bytes there are, and the field, if it is a number."""
+
+    name: str
+    kind: str
+    offset: int
+    size: int
+    field: Optional[Field]
+
+
+class Written(NamedTuple):
+    """A condition as text, and what it means; how tightly it holds together: 0 for `||`, 1 for `&&`, 2 for what needs no parentheses."""
+
+    text: str
+    means: Predicate
+    binds: int = 2
+
+
+class Answer(NamedTuple):
+    """What a question's answer has: names, and rows of what records have in these columns, or tallies; and what is emitted of records."""
+
+    names: List[str]
+    rows: List[List[object]]
+    emitted: bytes
+
+
+class Drawn(NamedTuple):
+    """A question: its files by their names, its words, and its answer, or that it is refused."""
+
+    files: Dict[str, bytes]
+    words: List[str]
+    answer: Optional[Answer]
+
+
+def kind_of(field: Field) -> str:
+    """The type of a field.
+
+    >>> kind_of(Field(2, 0, signed=True, big=True)), kind_of(Field(1, 0))
+    ('i16be', 'u8')
+    """
+    return f"{'i' if field.signed else 'u'}{8 * field.size}{'be' if field.big else ''}"
+
+
+def bounds(field: Field) -> Tuple[int, int]:
+    """The least and the greatest number of a field's type.
+
+    >>> bounds(Field(1, 0, signed=True)), bounds(Field(2, 0))
+    ((-128, 127), (0, 65535))
+    """
+    bits = 8 * field.size
+    return (-(2 ** (bits - 1)), 2 ** (bits - 1) - 1) if field.signed else (0, 2**bits - 1)
+
+
+class Draw:
+    """Draws by a seed."""
+
+    def __init__(self, seed: int) -> None:
+        self.rng = Random(seed)
+        rng = self.rng
+        self.block = rng.choice(BLOCKS)
+        self.size = rng.choice([1, 2, 4, 8, 12, 16, 20, 32, 50, 64, 100, 128, 256, 512])
+        self.first = rng.choice([0, 0, 0, 4, 17]) if self.size < 512 else 0
+        fitting = (self.block - self.first) // self.size
+        # a program has so many slots that many records with a long condition need several of them
+        self.count = rng.randint(1, min(fitting, 40)) if rng.random() < 0.5 else fitting
+        self.argument = rng.choice([0, 1, 2, 7, 255, 2**31, 2**32 - 1, rng.randrange(2**32)])
+        self.columns = [self.column(f"{rng.choice(['f', 'field_', 'F_'])}{number}") for number in range(rng.randint(1, 5))]
+
+    def maybe(self, share: float) -> bool:
+        """Yes, in this share of the draws."""
+        return self.rng.random() < share
+
+    # ---- layouts
+
+    def number(self) -> Field:
+        """A number that lies in a record."""
+        size = self.rng.choice([size for size in (1, 2, 4, 8) if size <= self.size])
+        return Field(size, self.rng.randint(0, self.size - size), self.maybe(0.4), size > 1 and self.maybe(0.3))
+
+    def column(self, name: str) -> Column:
+        """A column of any type."""
+        if self.maybe(0.75):
+            field = self.number()
+            return Column(name, kind_of(field), field.offset, field.size, field)
+        size = self.rng.randint(1, min(12, self.size))
+        return Column(name, f"{self.rng.choice(['text', 'bytes'])}{size}", self.rng.randint(0, self.size - size), size, None)
+
+    def layout(self) -> bytes:
+        """A layout's file, with comments and blanks between."""
+        head = ["records", str(self.size)]
+        if self.first or self.maybe(0.2):
+            head += ["from", str(self.first)]
+        if self.count != (self.block - self.first) // self.size or self.maybe(0.2):
+            head += ["count", str(self.count)]
+        rows = [head] + [[column.name, column.kind, f"@{column.offset}"] for column in self.columns]
+        lines = [self.rng.choice([" ", " ", "  ", "\t"]).join(row) for row in rows]
+        for number in range(len(lines)):
+            if self.maybe(0.1):
+                lines[number] += self.rng.choice(["  ; what", ";", "\t"])
+        if self.maybe(0.2):
+            lines.insert(self.rng.randint(0, len(lines)), self.rng.choice(["", "; u32 @0", "  "]))
+        return "".join(line + "\n" for line in lines).encode()
+
+    # ---- conditions
+
+    def condition(self, depth: int) -> Written:
+        """A condition; parentheses are around what needs them, and around others now and then."""
+        if depth == 0 or self.maybe(0.3):
+            return self.comparison()
+        kind = self.rng.choice(["!", "&&", "&&", "||", "||"])
+        if kind == "!":
+            inner = self.condition(depth - 1)
+            return Written(self.rng.choice(["!", "! "]) + self.within(inner, 2), Not(inner.means))
+        binds = 1 if kind == "&&" else 0
+        parts = [self.condition(depth - 1) for _ in range(self.rng.choice([2, 2, 2, 3]))]
+        # `a && b && c` is `(a && b) && c`: of a part that isn't the first the same sign needs none either, as the order tells nothing
+        text = self.rng.choice([kind, f" {kind} ", f"  {kind}\t"]).join(self.within(part, binds) for part in parts)
+        means = parts[0].means
+        for part in parts[1:]:
+            means = And(means, part.means) if kind == "&&" else Or(means, part.means)
+        return Written(text, means, binds)
+
+    def within(self, part: Written, binds: int) -> str:
+        """A part in another condition."""
+        needs = part.binds < binds
+        return f"({part.text})" if needs or self.maybe(0.15) else part.text
+
+    def comparison(self) -> Written:
+        """A comparison: of a number in one of four forms, or of bytes."""
+        form = self.rng.choice(["compare"] * 6 + ["range", "set", "bytes", "text"])
+        if form == "bytes":
+            return self.some_bytes()
+        name, field = self.some_field()
+        if form == "text":
+            return self.text(name, field)
+        if form == "range":
+            (low, first), (high, last) = self.operand(field), self.operand(field)
+            dots, comparison = self.rng.choice([("..", "<"), ("..=", "<=")])
+            means: Predicate = And(Compare(field, ">=", first), Compare(field, comparison, last))
+            return Written(f"{name} in {low}{dots}{high}", means)
+        if form == "set":
+            elements = [self.operand(field) for _ in range(self.rng.randint(1, 4))]
+            means = Compare(field, "==", elements[0][1])
+            for _, element in elements[1:]:
+                means = Or(means, Compare(field, "==", element))
+            between = self.rng.choice([", ", ","])
+            return Written(f"{name} in {{{between.join(text for text, _ in elements)}}}", means)
+        comparison = self.rng.choice(COMPARISONS)
+        text, operand = self.operand(field)
+        return Written(f"{name}{self.rng.choice([comparison, f' {comparison} '])}{text}", Compare(field, comparison, operand))
+
+    def some_field(self) -> Tuple[str, Field]:
+        """A field of the layout by its name, or one without a name."""
+        named = [(column.name, column.field) for column in self.columns if column.field is not None]
+        if named and self.maybe(0.7):
+            return self.rng.choice(named)
+        field = self.number()
+        return f"{kind_of(field)}@{field.offset}", field
+
+    def operand(self, field: Field) -> Tuple[str, Operand]:
+        """What a field is compared with: a number of its type, the argument, or a field of the same sign."""
+        choice = self.rng.random()
+        if choice < 0.1:
+            return "arg", Argument()
+        if choice < 0.25:
+            name, other = self.some_field()
+            if other.signed == field.signed:
+                return name, other
+        low, high = bounds(field)
+        number = self.rng.choice([low, high, 0, 1, 2, 3, -1, 97, 98, 127, 128, 255, 256, self.rng.randint(low, high)])
+        number = min(max(number, low), high)
+        return (hex(number) if number >= 0 and self.maybe(0.2) else str(number)), number
+
+    def some_bytes(self) -> Written:
+        """Bytes that are there, or aren't."""
+        length = self.rng.randint(1, min(12, self.size))
+        offset = self.rng.randint(0, self.size - length)
+        if self.maybe(0.5):
+            wanted = bytes(self.rng.choice([0, 0, 1, 97, 255]) for _ in range(length))
+            text = f"0x{wanted.hex()}"
+        else:
+            wanted = bytes(self.rng.choice(b"aabc ,|&)!;") for _ in range(length))
+            text = f'"{wanted.decode()}"'
+        return self.equals(f"bytes@{offset}", text, Bytes(offset, wanted))
+
+    def text(self, name: str, field: Field) -> Written:
+        """A text of as many bytes as a field has, where the field is."""
+        wanted = bytes(self.rng.choice(b"aabc ") for _ in range(field.size))
+        return self.equals(name, f'"{wanted.decode()}"', Bytes(field.offset, wanted))
+
+    def equals(self, front: str, text: str, means: Bytes) -> Written:
+        """These bytes, or others."""
+        if self.maybe(0.7):
+            return Written(f"{front} == {text}", means)
+        return Written(f"{front} != {text}", Not(means))
+
+    # ---- records
+
+    def blocks(self) -> bytes:
+        """Blocks whose bytes are often the same."""
+        kinds: List[Sequence[int]] = [[0], [0, 1, 2, 3], [0, 0, 255], range(256), LETTERS]
+        made = bytearray()
+        for _ in range(self.rng.randint(1, ZONE)):
+            some = [self.rng.choice(kinds) for _ in range(self.size)]
+            # of each place of a record the bytes are of one kind
+            made += bytes(self.rng.choice(some[at % self.size]) for at in range(self.block))
+        return bytes(made)
+
+    # ---- what is wanted of them
+
+    def wanted(self) -> Tuple[List[str], List[Column], List[Tuple[str, Tally]]]:
+        """The words, with the columns, or the tallies by their names in a row."""
+        unsigned = [column for column in self.columns if column.field is not None and not column.field.signed]
+        if self.maybe(0.4):
+            named: List[Tuple[str, Tally]] = []
+            words: List[str] = []
+            for kind in ("sum", "least", "greatest"):
+                if unsigned and self.maybe(0.6):
+                    column = self.rng.choice(unsigned)
+                    words += [f"--{kind}", column.name]
+                    named.append((f"{kind}({column.name})", Tally(kind, column.field)))
+            if not words or self.maybe(0.5):
+                words.append("--count")
+                # it is the first, whatever the order of the words
+                named.insert(0, ("count", Tally("count")))
+            return words, [], named
+        if self.maybe(0.2):
+            return [], self.columns, []
+        some = self.rng.sample(self.columns, self.rng.randint(1, len(self.columns)))
+        return ["--select", ",".join(column.name for column in some)], some, []
+
+    def drawn(self) -> Drawn:
+        """The question."""
+        blocks = self.blocks()
+        condition = self.condition(self.rng.randint(0, 3))
+        words, columns, tallies = self.wanted()
+        emitted = None
+        if columns:
+            first = min(column.offset for column in columns)
+            emitted = ByteRange(first, max(column.offset + column.size for column in columns) - first)
+        question = meaning.Question(self.first, self.size, self.count, condition.means, emitted, [tally for _, tally in tallies])
+        asked = [blocks[at : at + self.block] for at in range(0, len(blocks), self.block)]
+        words += self.rng.choice([[], ["--csv"], ["--json"], ["--raw"] if columns else []])
+        if self.maybe(0.2):
+            asked = asked[: self.rng.randint(1, len(asked))]
+            words += ["--blocks", str(len(asked))]
+        zone = self.rng.randrange(ZONES)
+        front = ["query", "zoned.img", "--zone", str(zone), "--layout", "layout", f"--where={condition.text}"]
+        answer = answer_of(question, self.argument, asked, columns, tallies)
+        given = ["--argument", str(self.argument)] if self.argument or self.maybe(0.5) else []
+        return Drawn({"zoned.img": image(self.block, zone, blocks), "layout": self.layout()}, [*front, *given, *words], answer)
+
+    # ---- questions that can't be asked
+
+    def wrong(self) -> Drawn:
+        """One that is to be refused: it has a part that no question may have, among parts that are right."""
+        field = self.number()
+        low, high = bounds(field)
+        there = f"{kind_of(field)}@{field.offset}"
+        length = self.rng.randint(1, 9)
+        other = Field(field.size, field.offset, not field.signed, field.big)
+        wrong = self.rng.choice(
+            [
+                f"{there} == {high + self.rng.choice([1, 2, 2**64])}",
+                f"{there} > {low - 1}",
+                f"{there} < {kind_of(other)}@{other.offset}",
+                f"u16@{self.size - 1} != 0",
+                f"{there} in {{}}",
+                f"{there} in 1",
+                f"unnamed <= {high}",
+                f"{there} = 1",
+                f"({there} == 1",
+                f"{there} == 1)",
+                f'bytes@{self.size - length + 1} == "{"a" * length}"' if length <= self.size else 'bytes@0 == ""',
+                "bytes@0 < 0x00",
+                "bytes@0 == 0x0",
+                f'{there} == "{"a" * (field.size + 1)}"',
+                "",
+            ]
+        )
+        right = self.condition(2)
+        text = wrong if not wrong or self.maybe(0.5) else self.rng.choice([f"({right.text}) && {wrong}", f"{wrong} || {right.text}"])
+        words = ["query", "zoned.img", "--zone", "0", "--layout", "layout", f"--where={text}", "--count"]
+        return Drawn({"zoned.img": image(self.block, 0, self.blocks()), "layout": self.layout()}, words, None)
+
+
+# ---- answers
+
+
+def answer_of(
+    question: meaning.Question, argument: int, blocks: List[bytes], columns: List[Column], tallies: List[Tuple[str, Tally]]
+) -> Answer:
+    """The answer of a question about blocks."""
+    emitted = b"".join(piece for block in blocks for piece in meaning.answer(question, argument, block))
+    records = [record for block in blocks for record in meaning.matching(question, argument, block)]
+    if tallies:
+        return Answer([name for name, _ in tallies], [[tally_value(tally, records) for _, tally in tallies]], emitted)
+    return Answer([column.name for column in columns], [[cell(column, record) for column in columns] for record in records], emitted)
+
+
+def tally_value(tally: Tally, records: List[bytes]) -> Optional[int]:
+    """What a tally's word says: of no record there is no least and no greatest, of the least the word has it subtracted.
+
+    >>> tally_value(Tally("least", Field(1, 0)), [b"\\3", b"\\2"]), tally_value(Tally("least", Field(1, 0)), [])
+    (2, None)
+    """
+    word = meaning.tally_from(tally, records, 0)
+    if tally.kind in ("least", "greatest") and not records:
+        return None
+    return 2**64 - 1 - word if tally.kind == "least" else word
+
+
+def cell(column: Column, record: bytes) -> object:
+    """What a row has in a column.
+
+    >>> cell(Column("a", "text4", 0, 4, None), b"a \\0 "), cell(Column("a", "bytes2", 1, 2, None), b"abc")
+    ('a', '0x6263')
+    """
+    if column.field is not None:
+        return meaning.value_of(column.field, record)
+    some = record[column.offset : column.offset + column.size]
+    if column.kind.startswith("text"):
+        try:
+            return some.rstrip(b"\0 ").decode()
+        except UnicodeDecodeError:
+            pass
+    return f"0x{some.hex()}"
+
+
+def image(block: int, zone: int, blocks: bytes) -> bytes:
+    """An image (docs/device.md), of which one zone has these blocks; it is open, or Full.
+
+    >>> len(image(512, 1, bytes(1024)))
+    1112
+    """
+    written = len(blocks) // block
+    header = b"ZNSIMG02" + struct.pack("<6I", block, ZONES, ZONE, ZONE, ZONES, ZONES) + struct.pack("<Q", written) + bytes(24)
+    state = 0xE if written == ZONE else 2
+    rows = [struct.pack("<B3xI", state, written) if number == zone else struct.pack("<B3xI", 1, 0) for number in range(ZONES)]
+    return header + b"".join(rows) + blocks
+
+
+def draw(seed: int) -> Drawn:
+    """The question of a seed. One of ten can't be asked."""
+    drawing = Draw(seed)
+    return drawing.wrong() if seed % 10 == 0 else drawing.drawn()
