@@ -108,9 +108,11 @@ static int listen_at(const char *place)
     return listener;
 }
 
-/* Says where it listens, and by which name hosts know it. */
+/* Says where it listens, and by which name hosts know it, to whoever reads it. */
 static bool announce(unsigned char *target, int listener)
 {
+    static struct lines out;
+    struct line place = {0}, known = {0};
     unsigned char name[PIFNJARL_NQN_BYTES];
     int name_bytes = (int)pifnjarl_target_nqn(target, name, sizeof name);
     char address[INET_ADDRSTRLEN];
@@ -118,13 +120,20 @@ static bool announce(unsigned char *target, int listener)
     socklen_t size = sizeof at;
     if (getsockname(listener, (struct sockaddr *)&at, &size) != 0 || inet_ntop(AF_INET, &at.sin_addr, address, sizeof address) == NULL)
         return false;
-    return printf("listening on %s:%u\n%.*s\n", address, (unsigned)ntohs(at.sin_port), name_bytes, (const char *)name) > 0
-        && fflush(stdout) == 0;
+    line_add(&place, "listening on %s:%u", address, (unsigned)ntohs(at.sin_port));
+    line_add(&known, "%.*s", name_bytes, (const char *)name);
+    lines_open(&out, STDOUT_FILENO, "");
+    lines_print(&out, &place);
+    lines_print(&out, &known);
+    lines_close(&out);
+    return true;
 }
 
 /* Makes the operations of the loop until it ends, and says whether it has done all. */
 static bool serve(unsigned char *target, struct image *image, int listener, int signals)
 {
+    static struct lines log;
+    char before[NAME_MAX + 3];
     struct kept_file *kept = &image->kept;
     struct pifnjarl_operation first;
     struct descriptors d = {.listener = listener, .signals = signals, .held = kept->file, .beside = -1, .path = kept->path,
@@ -139,7 +148,10 @@ static bool serve(unsigned char *target, struct image *image, int listener, int 
     bool begun = pifnjarl_loop_begin(target, image->level, &first);
     if (!begun)
         complain("cannot serve", kept->path, "memory is wanting");
-    bool done = begun && make_operations(&d, target, &first, stderr);
+    snprintf(before, sizeof before, "%s: ", program_invocation_short_name);
+    lines_open(&log, STDERR_FILENO, before);
+    bool done = begun && make_operations(&d, target, &first, &log);
+    lines_close(&log);
     kept->file = d.held;
     kept->written = d.beside;
     close(d.folder);
@@ -248,6 +260,7 @@ int main(int words, char **word)
 {
     if (!open_streams())
         return 1;
+    signal(SIGPIPE, SIG_IGN); /* who reads what is printed may go away */
     if (words == 2 && strcmp(word[1], "--help") == 0) {
         print_usage(stdout);
         return 0;

@@ -8,6 +8,7 @@
 #include <netinet/tcp.h>
 #include <poll.h>
 #include <signal.h>
+#include <stdio.h>
 #include <string.h>
 #include <sys/file.h>
 #include <sys/signalfd.h>
@@ -150,23 +151,24 @@ static uint32_t discard(struct descriptors *d)
     return close_one(&d->beside);
 }
 
-static uint32_t print(struct descriptors *d, unsigned char *handle, FILE *log)
+static uint32_t print(struct descriptors *d, unsigned char *handle, struct lines *log)
 {
+    struct line line = {0};
     size_t count = pifnjarl_loop_carried(handle, 0, outgoing, sizeof outgoing);
-    fprintf(log, "%s: ", program_invocation_short_name);
     for (size_t one = 0; one < count; one++)
         if (outgoing[one] == PIFNJARL_PATH || outgoing[one] == PIFNJARL_CAUSE)
-            fputs(outgoing[one] == PIFNJARL_PATH ? d->path : strerror(d->cause), log);
+            line_add(&line, "%s", outgoing[one] == PIFNJARL_PATH ? d->path : strerror(d->cause));
         else
-            fputc(outgoing[one], log);
-    return fputc('\n', log) == '\n' ? PIFNJARL_DID : PIFNJARL_FAILED;
+            line_add(&line, "%c", outgoing[one]);
+    lines_print(log, &line);
+    return PIFNJARL_DID;
 }
 
 static uint32_t make(struct descriptors *d, unsigned char *handle, const struct pifnjarl_operation *o, struct pifnjarl_answer *a,
-                     size_t *came, FILE *log)
+                     size_t *came, struct lines *log)
 {
     switch ((enum pifnjarl_operation_kind)o->kind) {
-    case PIFNJARL_POLL: return await(d, o, a);
+    case PIFNJARL_POLL: lines_go_on(log); return await(d, o, a);
     case PIFNJARL_SIGNAL: return take_signal(d, a);
     case PIFNJARL_NOW: return tell_time(a);
     case PIFNJARL_ACCEPT: return accept_host(d, o->number);
@@ -186,7 +188,7 @@ static uint32_t make(struct descriptors *d, unsigned char *handle, const struct 
     return PIFNJARL_FAILED;
 }
 
-bool make_operations(struct descriptors *d, unsigned char *handle, struct pifnjarl_operation *operation, FILE *log)
+bool make_operations(struct descriptors *d, unsigned char *handle, struct pifnjarl_operation *operation, struct lines *log)
 {
     while (operation->kind != PIFNJARL_END) {
         struct pifnjarl_answer answer = {0};

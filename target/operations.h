@@ -2,10 +2,10 @@
 #ifndef OPERATIONS_H
 #define OPERATIONS_H
 
+#include "lines.h"
 #include "pifnjarl_loop.h"
 
 #include <stdbool.h>
-#include <stdio.h>
 
 /* the descriptors and names that operations are made with */
 struct descriptors {
@@ -21,6 +21,6 @@ struct descriptors {
 };
 
 /* Makes operations until the loop ends, and says whether it has done all. Lines go to `log`. */
-bool make_operations(struct descriptors *d, unsigned char *handle, struct pifnjarl_operation *operation, FILE *log);
+bool make_operations(struct descriptors *d, unsigned char *handle, struct pifnjarl_operation *operation, struct lines *log);
 
 #endif
