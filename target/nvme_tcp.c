@@ -41,6 +41,14 @@ static void complain_of_call(const char *what, const char *name)
     complain(what, name, strerror(errno));
 }
 
+/* Why a file can't be written to which a path leads: the new one that is to take its place may be what is wrong. */
+static void complain_of_writing(const char *path)
+{
+    char unfinished[PATH_MAX];
+    bool is_odd = errno == EEXIST && (size_t)snprintf(unfinished, sizeof unfinished, "%s.unfinished", path) < sizeof unfinished;
+    complain("cannot write", is_odd ? unfinished : path, is_odd ? "it is no ordinary file" : strerror(errno));
+}
+
 /* Why there is no target on these bytes. */
 static void complain_of_opening(const char *name, size_t opened, struct pifnjarl_maker maker)
 {
@@ -72,7 +80,7 @@ static unsigned char *open_target(struct image *image)
     if (opened == PIFNJARL_DONE && kept_file_make_calls(&image->kept, target))
         return target;
     if (opened == PIFNJARL_DONE)
-        complain_of_call("cannot write", image->kept.path);
+        complain_of_writing(image->kept.path);
     else
         complain_of_opening(image->kept.path, opened, maker);
     if (target != NULL)
@@ -174,8 +182,10 @@ static bool name_target(unsigned char *target, const struct image *image)
     unsigned char uuid[IMAGE_UUID_BYTES];
     errno = ENAMETOOLONG;
     bool taken = (size_t)snprintf(path, sizeof path, "%s.uuid", image->kept.path) < sizeof path && image_uuid_take(path, uuid);
-    if (!taken)
-        complain("cannot take a UUID from", path, errno == EINVAL ? "it has none" : strerror(errno));
+    if (!taken && errno == EEXIST)
+        complain_of_writing(path);
+    else if (!taken)
+        complain("cannot take a UUID from", path, errno == EINVAL ? "it is no ordinary file with one" : strerror(errno));
     else if (!pifnjarl_target_name(target, uuid))
         complain("cannot serve", image->kept.path, "memory is wanting");
     else

@@ -4,7 +4,6 @@
 #include "image_file.h"
 
 #include <errno.h>
-#include <fcntl.h>
 #include <netinet/tcp.h>
 #include <poll.h>
 #include <signal.h>
@@ -123,12 +122,7 @@ static uint32_t write_file(unsigned char *handle, int file, const struct pifnjar
 static uint32_t create(struct descriptors *d)
 {
     struct stat before;
-    int stale = open(d->unfinished, O_RDONLY | O_NOFOLLOW | O_CLOEXEC);
-    bool is_ours = stale < 0 || flock(stale, LOCK_EX | LOCK_NB) == 0; /* else another program makes it */
-    if (stale >= 0 && is_ours)
-        unlink(d->unfinished);
-    close_one(&stale);
-    d->beside = is_ours ? open(d->unfinished, O_RDWR | O_CREAT | O_EXCL | O_CLOEXEC, 0600) : -1;
+    d->beside = image_file_create(d->unfinished, 0600);
     bool made = d->beside >= 0 && flock(d->beside, LOCK_EX | LOCK_NB) == 0 && fstat(d->held, &before) == 0;
     return made && image_file_take_after(d->beside, &before) ? PIFNJARL_DID : PIFNJARL_FAILED;
 }
@@ -156,7 +150,9 @@ static uint32_t print(struct descriptors *d, unsigned char *handle, struct lines
     struct line line = {0};
     size_t count = pifnjarl_loop_carried(handle, 0, outgoing, sizeof outgoing);
     for (size_t one = 0; one < count; one++)
-        if (outgoing[one] == PIFNJARL_PATH || outgoing[one] == PIFNJARL_CAUSE)
+        if (outgoing[one] == PIFNJARL_CAUSE && d->cause == EEXIST)
+            line_add(&line, "%s is no ordinary file", d->unfinished);
+        else if (outgoing[one] == PIFNJARL_PATH || outgoing[one] == PIFNJARL_CAUSE)
             line_add(&line, "%s", outgoing[one] == PIFNJARL_PATH ? d->path : strerror(d->cause));
         else
             line_add(&line, "%c", outgoing[one]);

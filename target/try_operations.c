@@ -119,6 +119,13 @@ static void make_all(const struct step *steps, bool done)
     assert(make_operations(&d, NULL, &first, &log_lines) == done);
 }
 
+/* This was printed, and nothing else. */
+static void has_said(const char *wanted)
+{
+    char got[256];
+    assert(read(said, got, sizeof got) == (ssize_t)strlen(wanted) && memcmp(got, wanted, strlen(wanted)) == 0);
+}
+
 /* A file has these bytes. */
 static void has(const char *path, const char *bytes)
 {
@@ -146,11 +153,29 @@ static void try_files(void)
         {.asked = {.kind = PIFNJARL_END, .flag = 0}},
     };
     make_all(steps, false);
-    char got[128], wanted[128];
-    int bytes = snprintf(wanted, sizeof wanted, "try: no %s: %s.\n", d.path, strerror(ENOENT));
-    assert(read(said, got, sizeof got) == bytes && memcmp(got, wanted, (size_t)bytes) == 0);
+    char wanted[256];
+    snprintf(wanted, sizeof wanted, "try: no %s: %s.\n", d.path, strerror(ENOENT));
+    has_said(wanted);
     has(d.path, "abcDEf");
     assert(access(d.unfinished, F_OK) != 0);
+}
+
+/* What is no ordinary file, and has the new one's name, stays, and the line that says why names it. */
+static void try_an_odd_file(void)
+{
+    char wanted[256];
+    struct stat about;
+    const struct step steps[] = {
+        {.asked = {.kind = PIFNJARL_CREATE}, .answer = PIFNJARL_FAILED},
+        {.asked = {.kind = PIFNJARL_DISCARD}, .answer = PIFNJARL_DID},
+        {.asked = {.kind = PIFNJARL_LOG, CARRIES("no \1: \2.")}, .carried = "no \1: \2.", .answer = PIFNJARL_DID},
+        {.asked = {.kind = PIFNJARL_END, .flag = 1}},
+    };
+    assert(mkfifo(d.unfinished, 0600) == 0);
+    make_all(steps, true);
+    snprintf(wanted, sizeof wanted, "try: no %s: %s is no ordinary file.\n", d.path, d.unfinished);
+    has_said(wanted);
+    assert(stat(d.unfinished, &about) == 0 && S_ISFIFO(about.st_mode) && unlink(d.unfinished) == 0);
 }
 
 static void try_a_new_file(void)
@@ -305,6 +330,7 @@ int main(void)
     d.listener = socket(AF_INET, SOCK_STREAM | SOCK_NONBLOCK | SOCK_CLOEXEC, 0);
     assert(d.signals >= 0 && bind(d.listener, (struct sockaddr *)&local, sizeof local) == 0 && listen(d.listener, 4) == 0);
     try_files();
+    try_an_odd_file();
     try_a_new_file();
     try_hosts();
     try_stalled_hosts();
