@@ -85,7 +85,9 @@ static uint32_t tell_time(struct pifnjarl_answer *a)
 static uint32_t accept_host(struct descriptors *d, size_t place)
 {
     int yes = 1;
-    d->connections[place] = accept4(d->listener, NULL, NULL, SOCK_NONBLOCK | SOCK_CLOEXEC);
+    struct address *peer = &d->peers[place];
+    *peer = (struct address){.bytes = sizeof peer->at};
+    d->connections[place] = accept4(d->listener, &peer->at.any, &peer->bytes, SOCK_NONBLOCK | SOCK_CLOEXEC);
     uint32_t came = answer_of(d->connections[place]);
     if (came == PIFNJARL_DID)
         setsockopt(d->connections[place], SOL_TCP, TCP_NODELAY, &yes, sizeof yes);
@@ -145,6 +147,18 @@ static uint32_t discard(struct descriptors *d)
     return close_one(&d->beside);
 }
 
+static void add_peer(const struct descriptors *d, struct line *line) /* to the line of a connection that begins */
+{
+    size_t place;
+    int bytes = 0;
+    char text[ADDRESS_BYTES];
+    line->kind = line->count;
+    if (sscanf(line->bytes, "connection %zu begins%n", &place, &bytes) != 1 || (size_t)bytes != line->count || place >= PIFNJARL_PLACES)
+        return;
+    address_spell(&d->peers[place], text);
+    line_add(line, " from %s", text);
+}
+
 static uint32_t print(struct descriptors *d, unsigned char *handle, struct lines *log)
 {
     struct line line = {0};
@@ -156,6 +170,7 @@ static uint32_t print(struct descriptors *d, unsigned char *handle, struct lines
             line_add(&line, "%s", outgoing[one] == PIFNJARL_PATH ? d->path : strerror(d->cause));
         else
             line_add(&line, "%c", outgoing[one]);
+    add_peer(d, &line);
     lines_print(log, &line);
     return PIFNJARL_DID;
 }

@@ -2,6 +2,7 @@
 #ifndef OPERATIONS_H
 #define OPERATIONS_H
 
+#include "address.h"
 #include "lines.h"
 #include "pifnjarl_loop.h"
 
@@ -9,7 +10,8 @@
 
 /* the descriptors and names that operations are made with */
 struct descriptors {
-    int connections[PIFNJARL_PLACES + 1]; /* by their places; -1: none */
+    int connections[PIFNJARL_PLACES + 1];      /* by their places; -1: none */
+    struct address peers[PIFNJARL_PLACES + 1]; /* where the last one of a place came from */
     int listener;
     int signals;
     int held;         /* the file */

@@ -88,7 +88,7 @@ class Files(Kept):
         with self.again():
             pass
         before = self.image.read_bytes()
-        words = 'exec "$NVME_TCP_TARGET" "$0" --listen 127.0.0.1:99999 <&- >&- 2>&-'
+        words = 'exec "$NVME_TCP_TARGET" "$0" --listen 192.0.2.1:4420 <&- >&- 2>&-'
         self.assertEqual(subprocess.run(["sh", "-c", words, self.image]).returncode, 1)
         self.assertEqual(self.image.read_bytes(), before)
 

@@ -34,6 +34,7 @@ struct step {
 
 static struct descriptors d;
 static int host = -1; /* the other end of a connection */
+static unsigned port; /* its port */
 static struct lines log_lines;
 static int said = -1; /* the end of a pipe at which they come out */
 static const struct step *script;
@@ -47,6 +48,8 @@ static void meet_host(void)
     assert(getsockname(d.listener, (struct sockaddr *)&where, &size) == 0);
     host = socket(AF_INET, SOCK_STREAM, 0);
     assert(host >= 0 && connect(host, (struct sockaddr *)&where, size) == 0);
+    assert(getsockname(host, (struct sockaddr *)&where, &size) == 0);
+    port = ntohs(where.sin_port);
 }
 
 /* What the world does once an operation is answered. */
@@ -225,14 +228,18 @@ static void try_hosts(void)
         {.asked = {.kind = PIFNJARL_READ, .number = 7}, .answer = PIFNJARL_FAILED},
         {.asked = {.kind = PIFNJARL_NOW}, .answer = PIFNJARL_TIME},
         {.asked = {.kind = PIFNJARL_LOG, CARRIES("a line")}, .carried = "a line", .answer = PIFNJARL_DID},
+        {.asked = {.kind = PIFNJARL_LOG, CARRIES("connection 7 begins")}, .carried = "connection 7 begins", .answer = PIFNJARL_DID},
         {.asked = {.kind = PIFNJARL_POLL, .number = 1000}, .answer = PIFNJARL_HAPPENED, .number = PIFNJARL_SIGNALS},
         {.asked = {.kind = PIFNJARL_SIGNAL}, .answer = PIFNJARL_SIGNALLED, .number = 0}, /* SIGUSR1, and then SIGTERM */
         {.asked = {.kind = PIFNJARL_SIGNAL}, .answer = PIFNJARL_SIGNALLED, .number = 1},
         {.asked = {.kind = PIFNJARL_SIGNAL}, .answer = PIFNJARL_AGAIN},
         {.asked = {.kind = PIFNJARL_END, .flag = 1}},
     };
+    char wanted[128];
     meet_host();
     make_all(steps, true);
+    snprintf(wanted, sizeof wanted, "try: a line\ntry: connection 7 begins from 127.0.0.1:%u\n", port);
+    has_said(wanted);
     assert(d.connections[7] == -1 && d.connections[8] == -1);
 }
 

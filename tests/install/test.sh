@@ -72,7 +72,7 @@ make_target() {
         target=stub
         stub pifnjarl_handle_bytes pifnjarl_handle_open pifnjarl_handle_call pifnjarl_handle_end pifnjarl_words &&
             ${CC:-gcc} -std=c11 -I "$top/c" "$top/target/nvme_tcp.c" "$top/target/loop.c" \
-                "$top/target/operations.c" "$top/target/lines.c" "$top/target/image_uuid.c" \
+                "$top/target/operations.c" "$top/target/lines.c" "$top/target/address.c" "$top/target/image_uuid.c" \
                 "$top/c/image_file.c" "$top/c/kept_file.c" "$work/stub.o" -o "$work/made/nvme_tcp"
     fi
 }
