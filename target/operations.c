@@ -17,6 +17,8 @@
 
 #define OUTGOING 262144 /* bytes that are sent at once */
 
+enum { IDLE = 60, INTERVAL = 10, PROBES = 6 }; /* of TCP's keepalive, in seconds: a host that is gone is noticed after two minutes */
+
 enum { LISTENER = PIFNJARL_PLACES, SIGNALS, POLLED }; /* what is polled beside connections */
 
 static unsigned char incoming[PIFNJARL_INCOMING], outgoing[OUTGOING];
@@ -82,16 +84,25 @@ static uint32_t tell_time(struct pifnjarl_answer *a)
     return PIFNJARL_TIME;
 }
 
+static void set_option(int connection, int level, int option, int value)
+{
+    setsockopt(connection, level, option, &value, sizeof value);
+}
+
 static uint32_t accept_host(struct descriptors *d, size_t place)
 {
-    int yes = 1;
     struct address *peer = &d->peers[place];
     *peer = (struct address){.bytes = sizeof peer->at};
     d->connections[place] = accept4(d->listener, &peer->at.any, &peer->bytes, SOCK_NONBLOCK | SOCK_CLOEXEC);
     uint32_t came = answer_of(d->connections[place]);
-    if (came == PIFNJARL_DID)
-        setsockopt(d->connections[place], SOL_TCP, TCP_NODELAY, &yes, sizeof yes);
-    return came;
+    if (came != PIFNJARL_DID)
+        return came;
+    set_option(d->connections[place], SOL_TCP, TCP_NODELAY, 1);
+    set_option(d->connections[place], SOL_SOCKET, SO_KEEPALIVE, 1);
+    set_option(d->connections[place], SOL_TCP, TCP_KEEPIDLE, IDLE);
+    set_option(d->connections[place], SOL_TCP, TCP_KEEPINTVL, INTERVAL);
+    set_option(d->connections[place], SOL_TCP, TCP_KEEPCNT, PROBES);
+    return PIFNJARL_DID;
 }
 
 static uint32_t read_host(struct descriptors *d, size_t place, size_t *count)

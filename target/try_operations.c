@@ -8,6 +8,7 @@
 #include <errno.h>
 #include <fcntl.h>
 #include <netinet/in.h>
+#include <netinet/tcp.h>
 #include <signal.h>
 #include <stdio.h>
 #include <stdlib.h>
@@ -52,12 +53,30 @@ static void meet_host(void)
     port = ntohs(where.sin_port);
 }
 
+static int option(int connection, int level, int which)
+{
+    int value = -1;
+    socklen_t size = sizeof value;
+    assert(getsockopt(connection, level, which, &value, &size) == 0);
+    return value;
+}
+
+/* A connection sends at once, and asks for a sign of its host. */
+static void look_at_connection(int connection)
+{
+    assert(option(connection, SOL_TCP, TCP_NODELAY) != 0 && option(connection, SOL_SOCKET, SO_KEEPALIVE) != 0);
+    assert(option(connection, SOL_TCP, TCP_KEEPIDLE) == 60 && option(connection, SOL_TCP, TCP_KEEPINTVL) == 10);
+    assert(option(connection, SOL_TCP, TCP_KEEPCNT) == 6);
+}
+
 /* What the world does once an operation is answered. */
 static void play_world(const struct step *now, const struct pifnjarl_answer *answer)
 {
     char got[16];
-    if (now->asked.kind == PIFNJARL_ACCEPT && answer->kind == PIFNJARL_DID)
+    if (now->asked.kind == PIFNJARL_ACCEPT && answer->kind == PIFNJARL_DID) {
+        look_at_connection(d.connections[now->asked.number]);
         assert(write(host, "hello", 5) == 5);
+    }
     if (now->asked.kind == PIFNJARL_WRITE && answer->kind == PIFNJARL_TAKEN) {
         assert(read(host, got, sizeof got) == (ssize_t)answer->number && memcmp(got, now->carried, answer->number) == 0);
         close(host);
