@@ -15,11 +15,13 @@
 #include <limits.h>
 #include <netinet/in.h>
 #include <signal.h>
+#include <stddef.h>
 #include <stdio.h>
 #include <stdlib.h>
 #include <string.h>
 #include <sys/signalfd.h>
 #include <sys/socket.h>
+#include <sys/un.h>
 #include <unistd.h>
 
 /* the image, whether it is kept as a journal, and how much is told of serving it */
@@ -132,6 +134,27 @@ static bool announce(unsigned char *target, int listener)
     return true;
 }
 
+/* Says to the service manager that hosts are served from now on, if it waits for that: NOTIFY_SOCKET names its socket, with @ in front of a
+   name that no file has (sd_notify(3)). */
+static void notify_ready(void)
+{
+    static const char ready[] = "READY=1";
+    struct sockaddr_un to = {.sun_family = AF_UNIX};
+    const char *name = getenv("NOTIFY_SOCKET");
+    if (name == NULL)
+        return;
+    size_t count = strlen(name) < sizeof to.sun_path ? strlen(name) : 0; /* a longer one is none */
+    socklen_t bytes = (socklen_t)(offsetof(struct sockaddr_un, sun_path) + count);
+    memcpy(to.sun_path, name, count);
+    if (to.sun_path[0] == '@')
+        to.sun_path[0] = 0;
+    int notifier = socket(AF_UNIX, SOCK_DGRAM | SOCK_CLOEXEC, 0);
+    if (notifier < 0 || sendto(notifier, ready, sizeof ready - 1, MSG_NOSIGNAL, (struct sockaddr *)&to, bytes) < 0)
+        complain_of_call("cannot report to", name);
+    if (notifier >= 0)
+        close(notifier);
+}
+
 /* Makes the operations of the loop until it ends, and says whether it has done all. */
 static bool serve(unsigned char *target, struct image *image, int listener, int signals)
 {
@@ -201,6 +224,8 @@ static bool run(struct image *image, const char *path, const struct address *add
     bool listens = listener >= 0 && announce(target, listener);
     if (named && !listens)
         complain_of_listening(address);
+    if (listens)
+        notify_ready();
     bool done = listens && serve(target, image, listener, signals);
     pifnjarl_handle_end(target);
     free(target);

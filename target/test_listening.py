@@ -1,4 +1,4 @@
-"""Tests of where a target listens, and of what it says of where hosts come from. test_nvme_tcp.py runs them."""
+"""Tests of where a target listens, and what it says of that, and of where hosts come from. test_nvme_tcp.py runs them."""
 
 from __future__ import annotations
 
@@ -110,3 +110,37 @@ class Listening(unittest.TestCase):
         self.assert_serves("[::1]", "::1", "[::1]")
         self.assert_serves("[::]", "::1", "[::1]")
         self.assert_serves("[::]", "127.0.0.1", "[::ffff:127.0.0.1]")
+
+
+class Readiness(unittest.TestCase):
+    """A service manager that waits until the target serves (sd_notify(3))."""
+
+    def setUp(self) -> None:
+        folder = tempfile.TemporaryDirectory()
+        self.addCleanup(folder.cleanup)
+        self.folder = Path(folder.name)
+        self.image = self.folder / "zoned.img"
+        format_image(self.image)
+
+    def test_it_is_told_once_hosts_are_served(self) -> None:
+        """By a socket with a file, and by one without."""
+        for name in (str(self.folder / "notify"), f"@pifnjarl-{os.getpid()}"):
+            with self.subTest(name), socket.socket(socket.AF_UNIX, socket.SOCK_DGRAM) as manager:
+                manager.bind(name.replace("@", "\0", 1))
+                manager.settimeout(10)
+                with Target(self.image, variables={"NOTIFY_SOCKET": name}) as target:
+                    self.assertEqual(manager.recv(100), b"READY=1")
+                    with Host(target.address) as host:
+                        host.keep_alive()
+                    self.assertEqual(target.stop(), 0)
+                manager.settimeout(0)
+                self.assertRaises(BlockingIOError, manager.recv, 100)
+
+    def test_one_that_is_gone_ends_nothing(self) -> None:
+        for name in (str(self.folder / "nobody"), "/" + "n" * 200, ""):
+            with self.subTest(name):
+                errors = self.folder / "errors"
+                with Target(self.image, variables={"NOTIFY_SOCKET": name}, errors=errors) as target, Host(target.address) as host:
+                    host.keep_alive()
+                    self.assertEqual(target.stop(), 0)
+                self.assertRegex(errors.read_text(), f"^nvme_tcp: cannot report to {name}: .*\n$")
