@@ -9,7 +9,7 @@ work=$(mktemp -d /dev/shm/nvme_tcp.XXXXXX)
 trap 'rm -r "$work"' EXIT
 cc -O2 -Wall -o "$work/host" "$here/nvme_tcp.c"
 cc -std=c11 -O2 -Wall -Wextra -I "$here/../c" -o "$work/answers" "$here/../target/nvme_tcp.c" \
-    "$here/../target/operations.c" \
+    "$here/../target/operations.c" "$here/../target/lines.c" "$here/../target/address.c" \
     "$here/../c/pifnjarl_device.c" "$here/../c/image_file.c" "$here/../c/kept_file.c" \
     "$here/../target/image_uuid.c" "$here/nvme_tcp_answers.c"
 "$here/../target/build.sh" "$work"

@@ -236,6 +236,21 @@ static int has_bytes(const char *path, off_t count)
     return stat(path, &about) == 0 && about.st_size == count;
 }
 
+/* What is no ordinary file, and has the name of the new file, stays, and nothing is saved. */
+static void odd_files(const char *path, const char *unfinished)
+{
+    struct stat about;
+    CHECK(mkfifo(unfinished, 0600) == 0);
+    CHECK(pifnjarl_save_path(device, path) == PIFNJARL_CANNOT_WRITE && errno == EEXIST);
+    CHECK(has_bytes(path, 1) && stat(unfinished, &about) == 0 && S_ISFIFO(about.st_mode) && unlink(unfinished) == 0);
+    CHECK(symlink(path, unfinished) == 0);
+    CHECK(pifnjarl_save_path(device, path) == PIFNJARL_CANNOT_WRITE && errno == EEXIST);
+    CHECK(has_bytes(path, 1) && lstat(unfinished, &about) == 0 && S_ISLNK(about.st_mode) && unlink(unfinished) == 0);
+    CHECK(mkdir(unfinished, 0700) == 0);
+    CHECK(pifnjarl_save_path(device, path) == PIFNJARL_CANNOT_WRITE && errno == EEXIST);
+    CHECK(has_bytes(path, 1) && rmdir(unfinished) == 0);
+}
+
 /* What is saved takes the place of a file with its permissions and its owner, also where a program that was killed left an unfinished one;
    that of a program that writes it stays. */
 static void saving(const char *image)
@@ -254,6 +269,9 @@ static void saving(const char *image)
     CHECK(pifnjarl_save_path(device, path) == PIFNJARL_CANNOT_WRITE && errno == EBUSY);
     CHECK(has_bytes(path, 1) && has_bytes(unfinished, 1));
     close(other);
+    CHECK(unlink(unfinished) == 0);
+    odd_files(path, unfinished);
+    close(small_file(unfinished));
     CHECK(pifnjarl_save_path(device, path) == PIFNJARL_DONE);
     CHECK(has_bytes(path, (off_t)count) && access(unfinished, F_OK) != 0);
     CHECK(stat(path, &about) == 0 && (about.st_mode & 07777) == 0640 && about.st_uid == owner);

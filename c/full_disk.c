@@ -168,10 +168,12 @@ static bool is_alone(const char *path)
     return size_of(path) >= 0 && size_of(unfinished) < 0;
 }
 
-/* A fold whose new file can't be written, or brought to the disk, changes nothing, and neither does one without memory: the device is
-   used on. */
+/* A fold whose new file can't be written, or brought to the disk, or has the name of what is no ordinary file, changes nothing, and neither
+   does one without memory: the device is used on. */
 static void folds(const char *path)
 {
+    char unfinished[4096];
+    snprintf(unfinished, sizeof unfinished, "%s.unfinished", path);
     struct pifnjarl_durable *device = open_again(path);
     CHECK(write_much(device, 1));
     off_t grown = size_of(path);
@@ -181,6 +183,8 @@ static void folds(const char *path)
     sync_fails = true;
     CHECK(pifnjarl_durable_fold(device) == PIFNJARL_DURABLE_NO_ROOM && errno == EDQUOT);
     sync_fails = false;
+    CHECK(mkfifo(unfinished, 0600) == 0);
+    CHECK(pifnjarl_durable_fold(device) == PIFNJARL_DURABLE_NO_ROOM && errno == EEXIST && unlink(unfinished) == 0);
     lacks_memory = true;
     CHECK(pifnjarl_durable_fold(device) == PIFNJARL_DURABLE_NO_MEMORY);
     lacks_memory = false;

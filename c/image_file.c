@@ -51,16 +51,36 @@ static bool is_named(const char *name, int file)
     return fstat(file, &open) == 0 && stat(name, &there) == 0 && open.st_dev == there.st_dev && open.st_ino == there.st_ino;
 }
 
-/* A new file, which is locked from the first on. One that stands there was left by a program that was killed, if nobody has locked it, and
-   is removed. */
-static int create(const char *name, mode_t mode)
+int image_file_open_ordinary(const char *path, int flags)
+{
+    struct stat about;
+    int file = open(path, O_RDONLY | O_NONBLOCK | O_NOCTTY | O_CLOEXEC | flags);
+    if (file >= 0 && fstat(file, &about) == 0 && S_ISREG(about.st_mode))
+        return file;
+    if (file >= 0)
+        close(file);
+    if (file >= 0 || errno == ELOOP || errno == ENXIO) /* these are of a link and of a socket */
+        errno = EINVAL;
+    return -1;
+}
+
+/* Opens a file that stands where a new one is to be made. */
+static int open_stale(const char *name)
+{
+    int file = image_file_open_ordinary(name, O_NOFOLLOW);
+    if (file < 0 && errno == EINVAL)
+        errno = EEXIST;
+    return file;
+}
+
+int image_file_create(const char *name, mode_t mode)
 {
     for (int tries = 0; tries < MOST_TRIES; tries++) {
-        int file = open(name, O_WRONLY | O_CREAT | O_EXCL | O_CLOEXEC, mode);
+        int file = open(name, O_RDWR | O_CREAT | O_EXCL | O_CLOEXEC, mode);
         bool is_new = file >= 0;
         if (!is_new && errno != EEXIST)
             return -1;
-        if (!is_new && (file = open(name, O_RDONLY | O_NOFOLLOW | O_NONBLOCK | O_CLOEXEC)) < 0) {
+        if (!is_new && (file = open_stale(name)) < 0) {
             if (errno == ENOENT)
                 continue; /* it was removed meanwhile */
             return -1;
@@ -118,7 +138,7 @@ static enum image_file_result replace(const struct names *names, const unsigned 
 {
     struct stat before;
     bool is_there = stat(names->path, &before) == 0;
-    int file = create(names->unfinished, is_there ? 0600 : 0666);
+    int file = image_file_create(names->unfinished, is_there ? 0600 : 0666);
     if (file < 0)
         return IMAGE_FILE_AS_IT_WAS;
     bool placed = (!is_there || image_file_take_after(file, &before)) && write_all(file, bytes, count)

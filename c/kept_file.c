@@ -139,42 +139,16 @@ static bool write_bytes(struct calls *c, int file, size_t at)
     return true;
 }
 
-/* Removes a file that a program left which was killed; not one that is locked, since a program holds it. */
-static bool remove_stale(const char *path)
-{
-    int file = open(path, O_RDONLY | O_NOFOLLOW | O_CLOEXEC);
-    if (file < 0)
-        return errno == ENOENT;
-    bool removed = flock(file, LOCK_EX | LOCK_NB) == 0 && unlink(path) == 0;
-    int cause = errno;
-    close(file);
-    errno = cause == EWOULDBLOCK ? EBUSY : cause;
-    return removed;
-}
-
-/* An empty new file, locked from the first on. */
-static int create(struct kept_file *kept)
-{
-    if (!remove_stale(kept->unfinished))
-        return -1;
-    int file = open(kept->unfinished, O_RDWR | O_CREAT | O_EXCL | O_CLOEXEC, 0600);
-    if (file >= 0 && flock(file, LOCK_EX | LOCK_NB) != 0) {
-        int cause = errno;
-        close(file);
-        errno = cause;
-        return -1;
-    }
-    return file;
-}
-
 /* A new file of the bytes of the next call, with the permissions of the old one, all of it on the disk; -1 where there is none. */
 static int write_new(struct calls *c)
 {
     struct stat before;
-    int file = create(c->kept);
+    int file = image_file_create(c->kept->unfinished, 0600);
     if (file < 0)
         return -1;
-    if (fstat(c->kept->file, &before) == 0 && image_file_take_after(file, &before) && write_bytes(c, file, 0) && fsync(file) == 0)
+    bool is_held = flock(file, LOCK_EX | LOCK_NB) == 0; /* it is from the first on, unless its file system has no locks */
+    if (is_held && fstat(c->kept->file, &before) == 0 && image_file_take_after(file, &before) && write_bytes(c, file, 0)
+        && fsync(file) == 0)
         return file;
     discard(c->kept, file);
     return -1;

@@ -105,7 +105,8 @@ enum pifnjarl_result pifnjarl_save(struct pifnjarl_device *device, void *image, 
 
 /* Writes the image as it is now to a file: to PATH.unfinished, which takes the place of PATH, with its permissions and its owner, when it
    is whole and on the disk; and brings the name to the disk. Where PATH is a link, the file that it leads to is replaced. A PATH.unfinished
-   that a program left which was killed is removed first; while another program writes it, nothing is written, and errno is EBUSY. */
+   that a program left which was killed is removed first. Nothing is written while another program writes it, with EBUSY in errno, or where
+   it is no ordinary file, with EEXIST. */
 enum pifnjarl_result pifnjarl_save_path(struct pifnjarl_device *device, const char *path);
 
 /* Ends a device, and with it its programs and runs. What wasn't saved is lost. Null is no device, and nothing is done. */

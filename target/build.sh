@@ -10,5 +10,5 @@ library=$(mktemp -d)
 trap 'rm -rf "$library"' EXIT
 "$here/../c/library.sh" "$library" "$@"
 mkdir -p "$folder"
-${CC:-gcc} -std=c11 -O2 -Wall -Wextra -Werror "$@" -I "$here/../c" "$here/nvme_tcp.c" "$here/loop.c" "$here/operations.c" "$here/image_uuid.c" "$library/libpifnjarl.a" \
-    -o "$folder/nvme_tcp"
+${CC:-gcc} -std=c11 -O2 -Wall -Wextra -Werror "$@" -I "$here/../c" "$here/nvme_tcp.c" "$here/loop.c" "$here/operations.c" "$here/lines.c" "$here/address.c" \
+    "$here/image_uuid.c" "$library/libpifnjarl.a" -o "$folder/nvme_tcp"

@@ -4,7 +4,6 @@
 
 #include <ctype.h>
 #include <errno.h>
-#include <fcntl.h>
 #include <stdio.h>
 #include <sys/random.h>
 #include <unistd.h>
@@ -83,7 +82,7 @@ static bool make(const char *path, unsigned char uuid[IMAGE_UUID_BYTES])
 
 bool image_uuid_take(const char *path, unsigned char uuid[IMAGE_UUID_BYTES])
 {
-    int file = open(path, O_RDONLY | O_CLOEXEC);
+    int file = image_file_open_ordinary(path, 0);
     if (file < 0)
         return errno == ENOENT && make(path, uuid);
     bool taken = read_text(file, uuid);

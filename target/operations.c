@@ -4,10 +4,10 @@
 #include "image_file.h"
 
 #include <errno.h>
-#include <fcntl.h>
 #include <netinet/tcp.h>
 #include <poll.h>
 #include <signal.h>
+#include <stdio.h>
 #include <string.h>
 #include <sys/file.h>
 #include <sys/signalfd.h>
@@ -16,6 +16,8 @@
 #include <unistd.h>
 
 #define OUTGOING 262144 /* bytes that are sent at once */
+
+enum { IDLE = 60, INTERVAL = 10, PROBES = 6 }; /* of TCP's keepalive, in seconds: a host that is gone is noticed after two minutes */
 
 enum { LISTENER = PIFNJARL_PLACES, SIGNALS, POLLED }; /* what is polled beside connections */
 
@@ -82,14 +84,25 @@ static uint32_t tell_time(struct pifnjarl_answer *a)
     return PIFNJARL_TIME;
 }
 
+static void set_option(int connection, int level, int option, int value)
+{
+    setsockopt(connection, level, option, &value, sizeof value);
+}
+
 static uint32_t accept_host(struct descriptors *d, size_t place)
 {
-    int yes = 1;
-    d->connections[place] = accept4(d->listener, NULL, NULL, SOCK_NONBLOCK | SOCK_CLOEXEC);
+    struct address *peer = &d->peers[place];
+    *peer = (struct address){.bytes = sizeof peer->at};
+    d->connections[place] = accept4(d->listener, &peer->at.any, &peer->bytes, SOCK_NONBLOCK | SOCK_CLOEXEC);
     uint32_t came = answer_of(d->connections[place]);
-    if (came == PIFNJARL_DID)
-        setsockopt(d->connections[place], SOL_TCP, TCP_NODELAY, &yes, sizeof yes);
-    return came;
+    if (came != PIFNJARL_DID)
+        return came;
+    set_option(d->connections[place], SOL_TCP, TCP_NODELAY, 1);
+    set_option(d->connections[place], SOL_SOCKET, SO_KEEPALIVE, 1);
+    set_option(d->connections[place], SOL_TCP, TCP_KEEPIDLE, IDLE);
+    set_option(d->connections[place], SOL_TCP, TCP_KEEPINTVL, INTERVAL);
+    set_option(d->connections[place], SOL_TCP, TCP_KEEPCNT, PROBES);
+    return PIFNJARL_DID;
 }
 
 static uint32_t read_host(struct descriptors *d, size_t place, size_t *count)
@@ -122,12 +135,7 @@ static uint32_t write_file(unsigned char *handle, int file, const struct pifnjar
 static uint32_t create(struct descriptors *d)
 {
     struct stat before;
-    int stale = open(d->unfinished, O_RDONLY | O_NOFOLLOW | O_CLOEXEC);
-    bool is_ours = stale < 0 || flock(stale, LOCK_EX | LOCK_NB) == 0; /* else another program makes it */
-    if (stale >= 0 && is_ours)
-        unlink(d->unfinished);
-    close_one(&stale);
-    d->beside = is_ours ? open(d->unfinished, O_RDWR | O_CREAT | O_EXCL | O_CLOEXEC, 0600) : -1;
+    d->beside = image_file_create(d->unfinished, 0600);
     bool made = d->beside >= 0 && flock(d->beside, LOCK_EX | LOCK_NB) == 0 && fstat(d->held, &before) == 0;
     return made && image_file_take_after(d->beside, &before) ? PIFNJARL_DID : PIFNJARL_FAILED;
 }
@@ -150,23 +158,39 @@ static uint32_t discard(struct descriptors *d)
     return close_one(&d->beside);
 }
 
-static uint32_t print(struct descriptors *d, unsigned char *handle, FILE *log)
+static void add_peer(const struct descriptors *d, struct line *line) /* to the line of a connection that begins */
 {
+    size_t place;
+    int bytes = 0;
+    char text[ADDRESS_BYTES];
+    line->kind = line->count;
+    if (sscanf(line->bytes, "connection %zu begins%n", &place, &bytes) != 1 || (size_t)bytes != line->count || place >= PIFNJARL_PLACES)
+        return;
+    address_spell(&d->peers[place], text);
+    line_add(line, " from %s", text);
+}
+
+static uint32_t print(struct descriptors *d, unsigned char *handle, struct lines *log)
+{
+    struct line line = {0};
     size_t count = pifnjarl_loop_carried(handle, 0, outgoing, sizeof outgoing);
-    fprintf(log, "%s: ", program_invocation_short_name);
     for (size_t one = 0; one < count; one++)
-        if (outgoing[one] == PIFNJARL_PATH || outgoing[one] == PIFNJARL_CAUSE)
-            fputs(outgoing[one] == PIFNJARL_PATH ? d->path : strerror(d->cause), log);
+        if (outgoing[one] == PIFNJARL_CAUSE && d->cause == EEXIST)
+            line_add(&line, "%s is no ordinary file", d->unfinished);
+        else if (outgoing[one] == PIFNJARL_PATH || outgoing[one] == PIFNJARL_CAUSE)
+            line_add(&line, "%s", outgoing[one] == PIFNJARL_PATH ? d->path : strerror(d->cause));
         else
-            fputc(outgoing[one], log);
-    return fputc('\n', log) == '\n' ? PIFNJARL_DID : PIFNJARL_FAILED;
+            line_add(&line, "%c", outgoing[one]);
+    add_peer(d, &line);
+    lines_print(log, &line);
+    return PIFNJARL_DID;
 }
 
 static uint32_t make(struct descriptors *d, unsigned char *handle, const struct pifnjarl_operation *o, struct pifnjarl_answer *a,
-                     size_t *came, FILE *log)
+                     size_t *came, struct lines *log)
 {
     switch ((enum pifnjarl_operation_kind)o->kind) {
-    case PIFNJARL_POLL: return await(d, o, a);
+    case PIFNJARL_POLL: lines_go_on(log); return await(d, o, a);
     case PIFNJARL_SIGNAL: return take_signal(d, a);
     case PIFNJARL_NOW: return tell_time(a);
     case PIFNJARL_ACCEPT: return accept_host(d, o->number);
@@ -186,7 +210,7 @@ static uint32_t make(struct descriptors *d, unsigned char *handle, const struct 
     return PIFNJARL_FAILED;
 }
 
-bool make_operations(struct descriptors *d, unsigned char *handle, struct pifnjarl_operation *operation, FILE *log)
+bool make_operations(struct descriptors *d, unsigned char *handle, struct pifnjarl_operation *operation, struct lines *log)
 {
     while (operation->kind != PIFNJARL_END) {
         struct pifnjarl_answer answer = {0};

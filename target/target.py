@@ -14,7 +14,7 @@ import unittest
 from contextlib import ExitStack, contextmanager
 from functools import partial
 from pathlib import Path
-from typing import Callable, ClassVar, Dict, Iterator, Optional, Sequence
+from typing import Callable, ClassVar, Dict, Iterator, Optional, Sequence, Union
 
 from nvme_tcp_connection import Address, Completion, Refused
 from nvme_tcp_host import Host
@@ -83,16 +83,17 @@ class Target:
         words: Optional[Sequence[str]] = None,
         most_files: Optional[int] = None,
         variables: Optional[Dict[str, str]] = None,
-        errors: Optional[Path] = None,
+        errors: Union[Path, int, None] = None,
+        listen: str = "127.0.0.1:0",
     ) -> None:
-        """Starts the program on an image, at a port that is free, in memory or durable, or with other words; what it says on standard
-        error is shown unless it is quiet. Where most bytes are told, no file that it writes may have more; where most files are, it has no
-        descriptor of a higher number. Its environment has these variables too. Where a file is named for it, what it says on standard
-        error stands there."""
+        """Starts the program on an image, in memory or durable, or with other words, at an address and a port, which is any free one where it
+        is 0; what it says on standard error is shown unless it is quiet. Where most bytes are told, no file that it writes may have more;
+        where most files are, it has no descriptor of a higher number. Its environment has these variables too. Where a file is named for
+        it, or a descriptor, what it says on standard error goes there."""
         if words is None:
             words = [] if is_durable else ["--memory"]
-        said = open(errors, "w") if errors is not None else None
-        command = [os.environ["NVME_TCP_TARGET"], str(image), "--listen", "127.0.0.1:0", *words]
+        said = open(errors, "w", closefd=not isinstance(errors, int)) if errors is not None else None
+        command = [os.environ["NVME_TCP_TARGET"], str(image), "--listen", listen, *words]
         self._program = subprocess.Popen(
             command,
             stdout=subprocess.PIPE,
@@ -154,7 +155,7 @@ class Target:
         if said != "listening on":
             raise AssertionError(f"the target prints {line!r}, and ended with {self.stop()}")
         name, _, port = place.rpartition(":")
-        return name, int(port)
+        return name.strip("[]"), int(port)
 
 
 @contextmanager

@@ -11,7 +11,7 @@ if ! "$here/build.sh" "$work" -O1 -g -fsanitize=address,undefined -fno-sanitize-
     exit 1
 fi
 if ! { ${CC:-gcc} -std=c11 -O1 -g -Wall -Wextra -Werror -fsanitize=address,undefined -fno-sanitize-recover=all -I "$here/../c" \
-        "$here/try_operations.c" "$here/operations.c" "$here/../c/image_file.c" -o "$work/try_operations" && "$work/try_operations"; }; then
+        "$here/try_operations.c" "$here/operations.c" "$here/lines.c" "$here/address.c" "$here/../c/image_file.c" -o "$work/try_operations" && "$work/try_operations"; }; then
     echo "0 passed, 1 failed"
     exit 1
 fi

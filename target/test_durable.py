@@ -4,7 +4,9 @@ from __future__ import annotations
 
 import fcntl
 import os
+import re
 import signal
+import stat
 import subprocess
 import tempfile
 import unittest
@@ -13,7 +15,7 @@ from pathlib import Path
 from killing import kill_once, numbers
 from nvme_tcp_connection import HostError, Refused
 from nvme_tcp_host import Action, Host, IoQueue
-from target import BLOCK, EMITS_NOTHING, FILTER, ZONE_SIZE, Target, format_image, order
+from target import BLOCK, EMITS_NOTHING, FILTER, ZONE_SIZE, Target, format_image, order, uuid_file
 
 ROUNDS = 5
 SECONDS = 0.2
@@ -86,7 +88,7 @@ class Files(Kept):
         with self.again():
             pass
         before = self.image.read_bytes()
-        words = 'exec "$NVME_TCP_TARGET" "$0" --listen 127.0.0.1:99999 <&- >&- 2>&-'
+        words = 'exec "$NVME_TCP_TARGET" "$0" --listen 192.0.2.1:4420 <&- >&- 2>&-'
         self.assertEqual(subprocess.run(["sh", "-c", words, self.image]).returncode, 1)
         self.assertEqual(self.image.read_bytes(), before)
 
@@ -99,6 +101,25 @@ class Files(Kept):
             self.assertTrue(held.exists())
         with self.again():
             self.assertFalse(held.exists())
+
+    def test_what_is_no_ordinary_file_is_left_alone(self) -> None:
+        """Whether it has the name of a new file or of the UUID's: the program ends at once, and names it."""
+        uuid_file(self.image).unlink()
+        for ending in (".unfinished", ".uuid", ".uuid.unfinished"):
+            odd = self.image.with_name(self.image.name + ending)
+            with self.subTest(ending):
+                os.mkfifo(odd)
+                before = self.image.read_bytes()
+                command = [os.environ["NVME_TCP_TARGET"], str(self.image), "--listen", "127.0.0.1:0"]
+                ended = subprocess.run(command, capture_output=True, text=True, timeout=30, check=False)
+                self.assertEqual((ended.returncode, ended.stdout), (1, ""))
+                self.assertRegex(ended.stderr, f"^nvme_tcp: cannot [a-zA-Z ]* {re.escape(str(odd.resolve()))}: it is no ordinary file.*\n$")
+                self.assertTrue(stat.S_ISFIFO(odd.lstat().st_mode))
+                odd.unlink()
+                if ending == ".unfinished":
+                    self.assertEqual(self.image.read_bytes(), before)
+        with self.again():
+            self.assertTrue(uuid_file(self.image).is_file())
 
     @unittest.skipIf(os.geteuid() != 0, "only root gives a file to another user")
     def test_the_owner_stays(self) -> None:

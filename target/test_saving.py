@@ -84,6 +84,17 @@ class Saving(Image):
         self.assertEqual(self.image.read_bytes(), self.before)
         self.assertTrue(self.unfinished.exists())
 
+    def test_what_is_no_ordinary_file_is_left_alone(self) -> None:
+        """The image stays as it was, and what is printed names what stands in the new one's place."""
+        errors = self.folder / "errors"
+        with Target(self.image, errors=errors) as target, Host(target.address) as host:
+            host.queue(1).append(0, b"x" * BLOCK)
+            os.mkfifo(self.unfinished)
+            self.assertEqual(target.stop(), 1)
+        self.assertEqual(errors.read_text(), f"nvme_tcp: cannot write {self.image}: {self.unfinished} is no ordinary file\n")
+        self.assertEqual(self.image.read_bytes(), self.before)
+        self.assertTrue(stat.S_ISFIFO(self.unfinished.lstat().st_mode))
+
 
 class Words(Image):
     """The words of the command line."""

@@ -8,7 +8,9 @@
 #include <errno.h>
 #include <fcntl.h>
 #include <netinet/in.h>
+#include <netinet/tcp.h>
 #include <signal.h>
+#include <stdio.h>
 #include <stdlib.h>
 #include <string.h>
 #include <sys/file.h>
@@ -21,7 +23,7 @@
 
 /* what is asked for, with its bytes, and what is to come of it: which kind of answer, bytes, a number unless it is a time, and the one
    place that has bytes, or takes some; 0 for none */
-struct line {
+struct step {
     struct pifnjarl_operation asked;
     const char *carried;
     uint32_t answer;
@@ -33,8 +35,10 @@ struct line {
 
 static struct descriptors d;
 static int host = -1; /* the other end of a connection */
-static FILE *log_lines;
-static const struct line *script;
+static unsigned port; /* its port */
+static struct lines log_lines;
+static int said = -1; /* the end of a pipe at which they come out */
+static const struct step *script;
 static size_t at;
 static uint64_t last; /* the time that was told last */
 
@@ -45,14 +49,34 @@ static void meet_host(void)
     assert(getsockname(d.listener, (struct sockaddr *)&where, &size) == 0);
     host = socket(AF_INET, SOCK_STREAM, 0);
     assert(host >= 0 && connect(host, (struct sockaddr *)&where, size) == 0);
+    assert(getsockname(host, (struct sockaddr *)&where, &size) == 0);
+    port = ntohs(where.sin_port);
+}
+
+static int option(int connection, int level, int which)
+{
+    int value = -1;
+    socklen_t size = sizeof value;
+    assert(getsockopt(connection, level, which, &value, &size) == 0);
+    return value;
+}
+
+/* A connection sends at once, and asks for a sign of its host. */
+static void look_at_connection(int connection)
+{
+    assert(option(connection, SOL_TCP, TCP_NODELAY) != 0 && option(connection, SOL_SOCKET, SO_KEEPALIVE) != 0);
+    assert(option(connection, SOL_TCP, TCP_KEEPIDLE) == 60 && option(connection, SOL_TCP, TCP_KEEPINTVL) == 10);
+    assert(option(connection, SOL_TCP, TCP_KEEPCNT) == 6);
 }
 
 /* What the world does once an operation is answered. */
-static void play_world(const struct line *now, const struct pifnjarl_answer *answer)
+static void play_world(const struct step *now, const struct pifnjarl_answer *answer)
 {
     char got[16];
-    if (now->asked.kind == PIFNJARL_ACCEPT && answer->kind == PIFNJARL_DID)
+    if (now->asked.kind == PIFNJARL_ACCEPT && answer->kind == PIFNJARL_DID) {
+        look_at_connection(d.connections[now->asked.number]);
         assert(write(host, "hello", 5) == 5);
+    }
     if (now->asked.kind == PIFNJARL_WRITE && answer->kind == PIFNJARL_TAKEN) {
         assert(read(host, got, sizeof got) == (ssize_t)answer->number && memcmp(got, now->carried, answer->number) == 0);
         close(host);
@@ -62,7 +86,7 @@ static void play_world(const struct line *now, const struct pifnjarl_answer *ans
 }
 
 /* Its number and its places are those that are to come. */
-static void look_at(const struct line *now, const struct pifnjarl_answer *answer)
+static void look_at(const struct step *now, const struct pifnjarl_answer *answer)
 {
     if (answer->kind != PIFNJARL_TIME)
         assert(answer->number == now->number);
@@ -86,7 +110,7 @@ static void look_at_time(const struct pifnjarl_answer *answer)
 void pifnjarl_loop_step(unsigned char *handle, const struct pifnjarl_answer *answer, const unsigned char *came, size_t count,
                         struct pifnjarl_operation *operation)
 {
-    const struct line *now = &script[at];
+    const struct step *now = &script[at];
     (void)handle;
     if (answer->kind != now->answer)
         fprintf(stderr, "operation %zu of kind %u: %u came of it\n", at, now->asked.kind, answer->kind);
@@ -109,12 +133,19 @@ size_t pifnjarl_loop_carried(unsigned char *handle, size_t from, unsigned char *
     return count;
 }
 
-static void make_all(const struct line *lines, bool done)
+static void make_all(const struct step *steps, bool done)
 {
-    struct pifnjarl_operation first = lines[0].asked;
-    script = lines;
+    struct pifnjarl_operation first = steps[0].asked;
+    script = steps;
     at = 0;
-    assert(make_operations(&d, NULL, &first, log_lines) == done);
+    assert(make_operations(&d, NULL, &first, &log_lines) == done);
+}
+
+/* This was printed, and nothing else. */
+static void has_said(const char *wanted)
+{
+    char got[256];
+    assert(read(said, got, sizeof got) == (ssize_t)strlen(wanted) && memcmp(got, wanted, strlen(wanted)) == 0);
 }
 
 /* A file has these bytes. */
@@ -131,7 +162,7 @@ static void has(const char *path, const char *bytes)
 
 static void try_files(void)
 {
-    const struct line lines[] = {
+    const struct step steps[] = {
         {.asked = {.kind = PIFNJARL_PWRITE, .number = 3, CARRIES("DE")}, .carried = "DE", .answer = PIFNJARL_DID},
         {.asked = {.kind = PIFNJARL_FSYNC}, .answer = PIFNJARL_DID},
         {.asked = {.kind = PIFNJARL_FTRUNCATE, .number = 6}, .answer = PIFNJARL_DID},
@@ -143,19 +174,36 @@ static void try_files(void)
         {.asked = {.kind = PIFNJARL_DISCARD}, .answer = PIFNJARL_DID},
         {.asked = {.kind = PIFNJARL_END, .flag = 0}},
     };
-    make_all(lines, false);
-    char said[128], wanted[128];
-    rewind(log_lines);
-    snprintf(wanted, sizeof wanted, "%s: no %s: %s.\n", program_invocation_short_name, d.path, strerror(ENOENT));
-    assert(fgets(said, sizeof said, log_lines) != NULL && strcmp(said, wanted) == 0);
+    make_all(steps, false);
+    char wanted[256];
+    snprintf(wanted, sizeof wanted, "try: no %s: %s.\n", d.path, strerror(ENOENT));
+    has_said(wanted);
     has(d.path, "abcDEf");
     assert(access(d.unfinished, F_OK) != 0);
+}
+
+/* What is no ordinary file, and has the new one's name, stays, and the line that says why names it. */
+static void try_an_odd_file(void)
+{
+    char wanted[256];
+    struct stat about;
+    const struct step steps[] = {
+        {.asked = {.kind = PIFNJARL_CREATE}, .answer = PIFNJARL_FAILED},
+        {.asked = {.kind = PIFNJARL_DISCARD}, .answer = PIFNJARL_DID},
+        {.asked = {.kind = PIFNJARL_LOG, CARRIES("no \1: \2.")}, .carried = "no \1: \2.", .answer = PIFNJARL_DID},
+        {.asked = {.kind = PIFNJARL_END, .flag = 1}},
+    };
+    assert(mkfifo(d.unfinished, 0600) == 0);
+    make_all(steps, true);
+    snprintf(wanted, sizeof wanted, "try: no %s: %s is no ordinary file.\n", d.path, d.unfinished);
+    has_said(wanted);
+    assert(stat(d.unfinished, &about) == 0 && S_ISFIFO(about.st_mode) && unlink(d.unfinished) == 0);
 }
 
 static void try_a_new_file(void)
 {
     struct stat before, after;
-    const struct line lines[] = {
+    const struct step steps[] = {
         {.asked = {.kind = PIFNJARL_CREATE}, .answer = PIFNJARL_DID},
         {.asked = {.kind = PIFNJARL_PWRITE, .flag = 1, CARRIES("a new file")}, .carried = "a new file", .answer = PIFNJARL_DID},
         {.asked = {.kind = PIFNJARL_FSYNC, .flag = 1}, .answer = PIFNJARL_DID},
@@ -167,11 +215,11 @@ static void try_a_new_file(void)
     /* one that a killed program left is replaced, and one that a program holds isn't */
     int stale = open(d.unfinished, O_RDWR | O_CREAT, 0600);
     assert(stale >= 0 && write(stale, "stale bytes, which are more", 27) == 27 && flock(stale, LOCK_EX) == 0);
-    const struct line held[] = {{.asked = {.kind = PIFNJARL_CREATE}, .answer = PIFNJARL_FAILED}, {.asked = {.kind = PIFNJARL_END}}};
+    const struct step held[] = {{.asked = {.kind = PIFNJARL_CREATE}, .answer = PIFNJARL_FAILED}, {.asked = {.kind = PIFNJARL_END}}};
     make_all(held, false);
     close(stale);
     assert(chmod(d.path, 0640) == 0 && stat(d.path, &before) == 0);
-    make_all(lines, true);
+    make_all(steps, true);
     has(d.path, "A new file");
     assert(stat(d.path, &after) == 0 && after.st_mode == before.st_mode && after.st_ino != before.st_ino);
     int other = open(d.path, O_RDWR);
@@ -181,7 +229,7 @@ static void try_a_new_file(void)
 
 static void try_hosts(void)
 {
-    const struct line lines[] = {
+    const struct step steps[] = {
         {.asked = {.kind = PIFNJARL_NOW}, .answer = PIFNJARL_TIME},
         {.asked = {.kind = PIFNJARL_POLL, .number = 20}, .answer = PIFNJARL_HAPPENED}, /* a host waits, and isn't asked for */
         {.asked = {.kind = PIFNJARL_NOW}, .answer = PIFNJARL_TIME},
@@ -199,14 +247,18 @@ static void try_hosts(void)
         {.asked = {.kind = PIFNJARL_READ, .number = 7}, .answer = PIFNJARL_FAILED},
         {.asked = {.kind = PIFNJARL_NOW}, .answer = PIFNJARL_TIME},
         {.asked = {.kind = PIFNJARL_LOG, CARRIES("a line")}, .carried = "a line", .answer = PIFNJARL_DID},
+        {.asked = {.kind = PIFNJARL_LOG, CARRIES("connection 7 begins")}, .carried = "connection 7 begins", .answer = PIFNJARL_DID},
         {.asked = {.kind = PIFNJARL_POLL, .number = 1000}, .answer = PIFNJARL_HAPPENED, .number = PIFNJARL_SIGNALS},
         {.asked = {.kind = PIFNJARL_SIGNAL}, .answer = PIFNJARL_SIGNALLED, .number = 0}, /* SIGUSR1, and then SIGTERM */
         {.asked = {.kind = PIFNJARL_SIGNAL}, .answer = PIFNJARL_SIGNALLED, .number = 1},
         {.asked = {.kind = PIFNJARL_SIGNAL}, .answer = PIFNJARL_AGAIN},
         {.asked = {.kind = PIFNJARL_END, .flag = 1}},
     };
+    char wanted[128];
     meet_host();
-    make_all(lines, true);
+    make_all(steps, true);
+    snprintf(wanted, sizeof wanted, "try: a line\ntry: connection 7 begins from 127.0.0.1:%u\n", port);
+    has_said(wanted);
     assert(d.connections[7] == -1 && d.connections[8] == -1);
 }
 
@@ -216,18 +268,18 @@ static void try_stalled_hosts(void)
     int ends[2];
     struct rlimit before, none;
     static const char zeros[1 << 16];
-    const struct line full[] = {
+    const struct step full[] = {
         {.asked = {.kind = PIFNJARL_WRITE, .number = 5, CARRIES("more")}, .carried = "more", .answer = PIFNJARL_AGAIN},
         {.asked = {.kind = PIFNJARL_POLL, .writes = {[5] = 1}}, .answer = PIFNJARL_HAPPENED},
         {.asked = {.kind = PIFNJARL_END}},
     };
-    const struct line gone[] = {
+    const struct step gone[] = {
         {.asked = {.kind = PIFNJARL_POLL, .writes = {[5] = 1}}, .answer = PIFNJARL_HAPPENED, .reads = 5, .writes = 5},
         {.asked = {.kind = PIFNJARL_WRITE, .number = 5, CARRIES("more")}, .carried = "more", .answer = PIFNJARL_FAILED},
         {.asked = {.kind = PIFNJARL_CLOSE, .number = 5}, .answer = PIFNJARL_DID},
         {.asked = {.kind = PIFNJARL_END}},
     };
-    const struct line crowded[] = {
+    const struct step crowded[] = {
         {.asked = {.kind = PIFNJARL_ACCEPT, .number = 7}, .answer = PIFNJARL_FULL},
         {.asked = {.kind = PIFNJARL_END}},
     };
@@ -256,14 +308,14 @@ static void try_hard_files(void)
     for (size_t one = 0; one < MANY; one++)
         bytes[one] = (char)('a' + one % 23);
     bytes[MANY] = 0;
-    const struct line fails[] = {
+    const struct step fails[] = {
         {.asked = {.kind = PIFNJARL_PWRITE, CARRIES("bytes")}, .carried = "bytes", .answer = PIFNJARL_FULL},
         {.asked = {.kind = PIFNJARL_FSYNC}, .answer = PIFNJARL_FAILED},
         {.asked = {.kind = PIFNJARL_FTRUNCATE, .number = 1}, .answer = PIFNJARL_FAILED},
         {.asked = {.kind = PIFNJARL_SYNC_FOLDER}, .answer = PIFNJARL_FAILED},
         {.asked = {.kind = PIFNJARL_END}},
     };
-    const struct line writes[] = {
+    const struct step writes[] = {
         {.asked = {.kind = PIFNJARL_PWRITE, .number = 1, .carried = MANY}, .carried = bytes, .answer = PIFNJARL_DID},
         {.asked = {.kind = PIFNJARL_END}},
     };
@@ -285,8 +337,10 @@ int main(void)
     char folder[] = "/tmp/operations.XXXXXX", path[64], unfinished[64];
     struct sockaddr_in local = {.sin_family = AF_INET, .sin_addr.s_addr = htonl(INADDR_LOOPBACK)};
     sigset_t signals;
-    log_lines = tmpfile();
-    assert(log_lines != NULL && mkdtemp(folder) != NULL);
+    int ends[2];
+    assert(pipe(ends) == 0 && mkdtemp(folder) != NULL);
+    said = ends[0];
+    lines_open(&log_lines, ends[1], "try: ");
     snprintf(path, sizeof path, "%s/image", folder);
     snprintf(unfinished, sizeof unfinished, "%s/image.unfinished", folder);
     d = (struct descriptors){.beside = -1, .path = path, .unfinished = unfinished, .folder = open(folder, O_RDONLY | O_DIRECTORY)};
@@ -302,6 +356,7 @@ int main(void)
     d.listener = socket(AF_INET, SOCK_STREAM | SOCK_NONBLOCK | SOCK_CLOEXEC, 0);
     assert(d.signals >= 0 && bind(d.listener, (struct sockaddr *)&local, sizeof local) == 0 && listen(d.listener, 4) == 0);
     try_files();
+    try_an_odd_file();
     try_a_new_file();
     try_hosts();
     try_stalled_hosts();
@@ -310,7 +365,9 @@ int main(void)
     close(d.folder);
     close(d.listener);
     close(d.signals);
-    fclose(log_lines);
+    lines_close(&log_lines);
+    close(ends[0]);
+    close(ends[1]);
     assert(unlink(path) == 0 && rmdir(folder) == 0);
     puts("ok");
     return 0;

@@ -72,7 +72,7 @@ make_target() {
         target=stub
         stub pifnjarl_handle_bytes pifnjarl_handle_open pifnjarl_handle_call pifnjarl_handle_end pifnjarl_words &&
             ${CC:-gcc} -std=c11 -I "$top/c" "$top/target/nvme_tcp.c" "$top/target/loop.c" \
-                "$top/target/operations.c" "$top/target/image_uuid.c" \
+                "$top/target/operations.c" "$top/target/lines.c" "$top/target/address.c" "$top/target/image_uuid.c" \
                 "$top/c/image_file.c" "$top/c/kept_file.c" "$work/stub.o" -o "$work/made/nvme_tcp"
     fi
 }
@@ -204,6 +204,14 @@ unit_is_valid() {
     [ ! -s verified ]
 }
 
+# what the service may do besides is no more than 1.1 of 10, as systemd-analyze counts it
+unit_is_shut_in() {
+    systemd-analyze security --no-pager --offline=true --threshold=11 "$a/lib/systemd/system/pifnjarl-nvme-tcp@.service" > exposed 2>&1 || {
+        grep -v '^✓' exposed
+        return 1
+    }
+}
+
 try 'one version' version_is_one
 try 'zscli runs' formats
 try 'the target runs' target_helps
@@ -213,6 +221,11 @@ if looks_at_units; then
     try 'the service is valid' unit_is_valid
 else
     echo "skipped, without a systemd-analyze that looks at units: the service is valid"
+fi
+if systemd-analyze security --no-pager --offline=true "$work/any.service" > "$work/out" 2>&1; then
+    try 'the service is shut in' unit_is_shut_in
+else
+    echo "skipped, without a systemd-analyze that counts what units may do: the service is shut in"
 fi
 
 # ---- pages and completions
