@@ -141,13 +141,13 @@ class Readers(unittest.TestCase):
         return ends
 
     def assert_appended(self, count: int) -> None:
-        """So many blocks were kept."""
-        with Target(self.image) as target, Host(target.address) as host:
+        """So many blocks were kept. Then a journal has the image's place."""
+        with Target(self.image, is_durable=True) as target, Host(target.address) as host:
             self.assertEqual(host.queue(1).report(most=1)[0].write_pointer, count)
 
     def test_a_reader_that_goes_away_ends_nothing(self) -> None:
-        """And what was written is kept, by a journal and by what is saved at the end."""
-        for count, words in enumerate((["-vv"], ["-vv", "--memory"]), 1):
+        """And what was written is kept, by what is saved at the end and by a journal."""
+        for count, words in enumerate((["-vv", "--memory"], ["-vv"]), 1):
             end, errors = self.pipe()
             with Target(self.image, words=words, errors=errors) as target:
                 os.close(errors)
@@ -189,7 +189,7 @@ class Readers(unittest.TestCase):
             self.assertTrue(holds_soon(lambda: len(read_more(end, said)) >= full))
             del said[:full]
             self.assertTrue(holds_soon(lambda: DROPPED.search(read_more(end, said)) is not None), said)
-            self.assertGreater(int(DROPPED.search(said.decode()).group(1)), 10)
+            self.assertGreater(int(DROPPED.search(said.decode()).group(1)), 0)
             self.assertEqual(target.stop(), 0)
         self.assert_appended(8)
 
@@ -220,7 +220,7 @@ class Readers(unittest.TestCase):
         said = errors.read_text()
         begins = len(re.findall(r"^nvme_tcp: connection \d+ begins", said, re.M))
         self.assertEqual(begins + sum(map(int, MORE.findall(said))), CROWD)
-        self.assertLessEqual(begins, MOST_OF_A_KIND * (int(took) + 2))
+        self.assertLessEqual(begins, MOST_OF_A_KIND * (int(took) + 3))
 
 
 if __name__ == "__main__":
