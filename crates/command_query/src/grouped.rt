@@ -57,16 +57,7 @@ pub(crate) fn groups_asked<'a>(
     if name.is_empty() {
         return Ok(None);
     }
-    let column = named_column(alloc, BY, name, layout)?;
-    let field = match column.kind {
-        Kind::Number(field) if field.sign == Sign::Unsigned => field,
-        _ => {
-            let told = format!(in alloc;
-                "--by {name}: records are grouped by an unsigned number, of the types u8, u16, u32 and u64"
-            );
-            return Err(refused(told));
-        }
-    };
+    let field = field_asked(alloc, name, layout)?;
     if let Wanted::Rows(_) = wanted {
         let told = format!(in alloc;
             "--by {name}: a group has tallies; ask for --count, --sum, --least or --greatest"
@@ -85,6 +76,20 @@ pub(crate) fn groups_asked<'a>(
         count,
         of_program,
     }))
+}
+
+/// The field with a name, by which records can be grouped.
+fn field_asked<'a>(alloc: Global, name: &str, layout: &RecordLayout) -> Result<Field, Failure<'a>> {
+    let column = named_column(alloc, BY, name, layout)?;
+    match column.kind {
+        Kind::Number(field) if field.sign == Sign::Unsigned => Ok(field),
+        _ => {
+            let told = format!(in alloc;
+                "--by {name}: records are grouped by an unsigned number, of the types u8, u16, u32 and u64"
+            );
+            Err(refused(told))
+        }
+    }
 }
 
 /// The programs of a question: those of all groups, where it has some, one group after another; range as of [`parts_of`]. It is left with the records

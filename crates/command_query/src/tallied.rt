@@ -24,62 +24,34 @@ pub(crate) fn answer_tallies<'a>(
     tallies: &[NamedTally],
     printing: &mut Printed,
 ) -> Result<(), Failure<'a>> {
-    let asked_for = plan.compiled.question.tallies.as_slice();
-    let Some(groups) = &plan.compiled.groups else {
-        let mut totals = vec![in alloc; 0u64; asked_for.len()]?;
-        add_all(
-            alloc,
-            asked,
-            plan,
-            plan.compiled.parts.as_slice(),
-            asked_for,
-            totals.as_mut_slice(),
-        )?;
-        push_names(0, tallies, printing)?;
-        printing.begin_row()?;
-        push_tallies(0, tallies, totals.as_slice(), printing)?;
-        return Ok(());
-    };
-    let mut lacking = vec![in alloc; 0u64; 1]?;
-    add_all(
-        alloc,
-        asked,
-        plan,
-        plan.compiled.beyond.as_slice(),
-        &[Tally::Count],
-        lacking.as_mut_slice(),
-    )?;
-    check_beyond(alloc, groups, word_of(lacking.as_slice(), 0))?;
-    let mut totals = vec![in alloc; 0u64; asked_for
-        .len()
-        .saturating_mul(usize::from(groups.count))]?;
-    add_all(
-        alloc,
-        asked,
-        plan,
-        plan.compiled.parts.as_slice(),
-        asked_for,
-        totals.as_mut_slice(),
-    )?;
-    push_groups(
-        groups,
-        tallies,
-        asked_for.len(),
-        totals.as_slice(),
-        printing,
-    )?;
+    match &plan.compiled.groups {
+        None => {
+            let totals = totals_of(alloc, asked, plan, plan.compiled.parts.as_slice(), 1)?;
+            push_names(0, tallies, printing)?;
+            printing.begin_row()?;
+            push_tallies(0, tallies, totals.as_slice(), printing)?;
+        }
+        Some(groups) => {
+            let lacking = totals_of(alloc, asked, plan, plan.compiled.beyond.as_slice(), 1)?;
+            check_beyond(alloc, groups, word_of(lacking.as_slice(), 0))?;
+            let parts = plan.compiled.parts.as_slice();
+            let totals = totals_of(alloc, asked, plan, parts, usize::from(groups.count))?;
+            push_groups(plan, groups, tallies, totals.as_slice(), printing)?;
+        }
+    }
     Ok(())
 }
 
-/// Runs programs over all blocks, and adds the words of their tallies, group by group.
-fn add_all<'a>(
+/// The words of the tallies of so many groups, group by group, which these programs leave that run over all blocks.
+fn totals_of<'a>(
     alloc: Global,
     asked: &mut AskedDevice,
     plan: &Plan,
     parts: &[Part],
-    tallies: &[Tally],
-    totals: &mut [u64],
-) -> Result<(), Failure<'a>> {
+    groups: usize,
+) -> Result<Vec<u64>, Failure<'a>> {
+    let tallies = plan.compiled.question.tallies.as_slice();
+    let mut totals = vec![in alloc; 0u64; tallies.len().saturating_mul(groups)]?;
     for part in parts {
         load(alloc, asked, 0, part)?;
         let before = tallies.len().saturating_mul(usize::from(part.first_group));
@@ -91,17 +63,18 @@ fn add_all<'a>(
             }
         }
     }
-    Ok(())
+    Ok(totals)
 }
 
 /// Adds the names of the columns, and a row of each group that has records.
 fn push_groups(
+    plan: &Plan,
     groups: &Groups,
     tallies: &[NamedTally],
-    words: usize,
     totals: &[u64],
     printing: &mut Printed,
 ) -> Result<(), AllocError> {
+    let words = plan.compiled.question.tallies.len();
     let name = groups.name.as_str();
     printing.push_name(0, name)?;
     push_names(1, tallies, printing)?;

@@ -71,8 +71,8 @@ module _ (s : State) (queue : ℕ) (entry input : List ℕ) (starved : Bool) (co
   last = next interval_judge s queue entry input starved command run events
 
   -- The last turn is answered with the completion of the Run, a success, which has the number of the records, and that of the blocks that
-  -- were appended. These are read from where the destination's end was, and unpack to the records. Result gives the tallies: word i
-  -- of them is what tally i of the matching records comes to.
+  -- were appended. These are read from where the destination's end was, and unpack to the records. Result gives the tallies: each
+  -- of a group has a word, which is what it comes to over the matching records of the group.
   pub record IsAnswered : Type 0 where
     pub appended : List (List ℕ)
     pub completed : last.reply ≡ completion queue (identifier_of entry) SUCCESS (length records) (length appended) []

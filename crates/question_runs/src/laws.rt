@@ -26,8 +26,8 @@ pub fn loaded_questions_stay()
     spelled_is_decoded();
 }
 
-/// Word i of what Result gives of a question is its tally i over the records that match: their number or the sum of a field, modulo
-/// 2^64, or the least or the greatest of a field.
+/// What Result gives of a question has a word for each tally of each group: what the tally comes to over the records that match and are of
+/// the group, which is their number or the sum of a field, modulo 2^64, or the least or the greatest of a field.
 pub fn results_have_words()
     ensures { ResultsHaveWords }
 {
@@ -39,8 +39,8 @@ pub fn results_have_words()
 /// In each state that events leave, and in which a slot has such a program: a Run of the slot that is admitted is answered, whatever
 /// events come between its turns and after them. Its completion has the number of the records that match, or 0 where nothing of them
 /// is emitted, and the number of blocks. The blocks are read until the destination is reset or goes offline, and unpack to the
-/// records that match, in their order, cut to what was asked. Result gives a word for each tally of these records, their number, or the
-/// sum, the least or the greatest of a field, until a run of the slot ends or a Load of it succeeds.
+/// records that match, in their order, cut to what was asked. Result gives a word for each tally of each group of these records, their
+/// number, or the sum, the least or the greatest of a field, until a run of the slot ends or a Load of it succeeds.
 pub fn runs_answer()
     ensures { RunsAnswer }
 {
