@@ -2,7 +2,7 @@
 use Rattle.std.specs.Prelude.{◌≡◌, ℕ, ℤ, ◌-◌, ◌+◌, ◌≤◌, ◌++◌, length, codes, List}
 use Rattle.std.specs.Fmt.{signed_decimal}
 use Rattle.instruction_set.specs.Instruction.{size_of}
-use Rattle.record_questions.specs.Question.{cut, value_of}
+use Rattle.record_questions.specs.Question.{bytes_in, value_of}
 use Rattle.record_questions.specs.declared.question.Field.{Field}
 use Rattle.command_query.specs.declared.columns.Kind.{Kind}
 use Rattle.command_query.specs.declared.columns.Kind.TheVariants as kind
@@ -15,7 +15,7 @@ LiesAmong from f bytes = (from ≤ f.offset) × (f.offset - from + size_of f.siz
 
 -- a number is the value of a field in each record that has these bytes in a range from this offset on
 abbrev pub IsValueIn : ℕ → Field → List ℕ → ℤ → Type 0
-IsValueIn from f bytes number = (r : List ℕ) (size : ℕ) → bytes ≡ cut (record { offset = from; size = size }) r → number ≡ value_of f r
+IsValueIn from f bytes number = (r : List ℕ) (size : ℕ) → bytes ≡ bytes_in (record { offset = from; size = size }) r → number ≡ value_of f r
 
 -- a cell has a field of the records that have these bytes in a range from this offset on: its value, or nothing where it isn't among them
 abbrev pub HasField : ℕ → Field → List ℕ → Cell → Type 0

@@ -86,6 +86,25 @@ impl Plan {
     pub(crate) fn runs(&self) -> u64 {
         u64::from(self.times()).saturating_mul(self.compiled.programs())
     }
+
+    /// How many blocks all runs append, if all records match.
+    pub(crate) fn room(&self) -> u64 {
+        let mut room: u64 = 0;
+        for part in &self.compiled.parts {
+            room = room.saturating_add(self.room_of(part));
+        }
+        room
+    }
+
+    /// How many blocks the runs of a program append, if all records match.
+    fn room_of(&self, part: &Part) -> u64 {
+        let mut room: u64 = 0;
+        for time in 0..self.times() {
+            let blocks = blocks_needed(self.stretch(time).blocks, part.sizes);
+            room = room.saturating_add(u64::from(blocks));
+        }
+        room
+    }
 }
 
 /// Asks the question, and prints the answer.
@@ -100,6 +119,7 @@ pub(crate) fn answer<'a, O: Write>(
     form: Form,
     out: &mut O,
 ) -> Result<(), Failure<'a>> {
+    check_kept(alloc, asked, plan)?;
     open(alloc, asked, plan)?;
     let mut printing = Printed::new(alloc, form);
     match &plan.compiled.wanted {
@@ -246,22 +266,31 @@ pub(crate) fn run<'a>(
     Ok(completion.dw1)
 }
 
-/// Makes room for so many blocks: where the zone that is appended to lacks it, it is reset, of which all is read; unless it is kept.
+/// Refuses a zone that is to keep the answer, and lacks room for it.
+fn check_kept<'a>(alloc: Global, asked: &AskedDevice, plan: &Plan) -> Result<(), Failure<'a>> {
+    let room = plan.room();
+    let written = u64::from(asked.written(plan.destination));
+    if !plan.is_kept || written.saturating_add(room) <= u64::from(asked.capacity()) {
+        return Ok(());
+    }
+    let zone = plan.destination;
+    let told = format!(in alloc;
+        "--into {zone}: the zone lacks room for {room} blocks more, which the answer takes if all records match; name one that is Empty, or ask about fewer by --blocks"
+    );
+    Err(refused(told))
+}
+
+/// Makes room for so many blocks: where the zone that is appended to lacks it, it is reset, of which all is read. One that is kept has room
+/// for all.
 fn make_room<'a>(
     alloc: Global,
     asked: &mut AskedDevice,
     plan: &Plan,
     blocks: u32,
 ) -> Result<(), Failure<'a>> {
-    if asked.written(plan.destination).saturating_add(blocks) <= asked.capacity() {
+    let written = asked.written(plan.destination);
+    if plan.is_kept || written.saturating_add(blocks) <= asked.capacity() {
         return Ok(());
-    }
-    if plan.is_kept {
-        let zone = plan.destination;
-        let told = format!(in alloc;
-            "--into {zone}: the zone lacks room for {blocks} blocks more, which the next run appends if all records match; name one that is Empty, or ask about fewer by --blocks"
-        );
-        return Err(refused(told));
     }
     asked.send(alloc, plan.destination_lba, Action::Reset)?;
     asked.send(alloc, plan.destination_lba, Action::Open)

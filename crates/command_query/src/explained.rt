@@ -5,7 +5,6 @@ use crate::columns::{Column, Kind, push_type};
 use crate::compiled::CompiledQuestion;
 use crate::wanted::Wanted;
 use command_files::Counted;
-use emit_append::blocks_needed;
 use program_interface::MOST_SLOTS;
 use question_words::text_of;
 use std::alloc::{AllocError, Global};
@@ -98,11 +97,7 @@ pub(crate) fn push_work(plan: &Plan, text: &mut String) -> Result<(), AllocError
     let blocks = Counted(u64::from(plan.source.blocks), "block");
     let zone = plan.source.zone;
     writeln!(text, "source: {blocks} of zone {zone}")?;
-    let mut room: u64 = 0;
-    for part in &plan.compiled.parts {
-        room = room.saturating_add(u64::from(blocks_needed(plan.source.blocks, part.sizes)));
-    }
-    let room = Counted(room, "block");
+    let room = Counted(plan.room(), "block");
     let destination = plan.destination;
     writeln!(
         text,

@@ -28,14 +28,15 @@ pub(crate) fn range_over(columns: &[Column]) -> Option<ByteRange> {
     Some(between(first, end))
 }
 
-/// Of the bytes of a record that were emitted, those from the range on that has a column, and the offset of the first of them.
+/// Of the bytes of a record that were emitted, those of the range that has a column, and the offset of the first of them.
 pub(crate) fn part_with<'r>(ranges: &[ByteRange], kind: Kind, record: &'r [u8]) -> (u16, &'r [u8]) {
     let mut before = 0_usize;
     for range in ranges {
         let size = usize::from(range.size);
         let end = u32::from(range.offset) + u32::from(range.size);
         if range.offset <= kind.offset() && kind.end() <= end {
-            return (range.offset, record.get(before..).unwrap_or(&[]));
+            let bytes = record.get(before..before.saturating_add(size));
+            return (range.offset, bytes.unwrap_or(&[]));
         }
         before = before.saturating_add(size);
     }

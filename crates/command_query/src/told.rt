@@ -69,7 +69,7 @@ pub(crate) fn tell_of_blocks<'a, F: Files, O: Write>(
 ///
 /// # Errors
 ///
-/// The question has several programs and none is named, or lacks the one that is; the program can't be written, standard output fails, or
+/// The question has groups, or several programs and none is named, or lacks the one that is; the program can't be written, standard output fails, or
 /// memory is wanting.
 pub(crate) fn write_program<'a, F: Files, O: Write>(
     alloc: Global,
@@ -82,6 +82,11 @@ pub(crate) fn write_program<'a, F: Files, O: Write>(
     ensures kept { OnErr result (F.made files.new ≡ F.made files.old) }
     ensures contents { OnErr result (F.contents files.new ≡ F.contents files.old) }
 {
+    if compiled.groups.is_some() {
+        return Err(refused(format!(in alloc;
+            "--program: a question with --by takes programs beside each other, of which one counts what has no group; ask an image, or for the tallies without --by"
+        )));
+    }
     let path = required(matches, PROGRAM);
     let (index, part) = part_asked(alloc, matches, compiled.parts.as_slice())?;
     let limit = part.sizes.limit();
