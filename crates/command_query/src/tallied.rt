@@ -58,9 +58,9 @@ fn totals_of<'a>(
         for time in 0..plan.times() {
             run(alloc, asked, plan, 0, plan.stretch(time))?;
             let length = asked.result(alloc, slot_of(0))?;
-            if let Some(words) = totals.get_mut(before..) {
-                add_words(tallies, asked.data(length), words);
-            }
+            let first = before.min(totals.len());
+            let (_, words) = totals.as_mut_slice().split_at_mut(first);
+            add_words(tallies, asked.data(length), words);
         }
     }
     Ok(totals)
