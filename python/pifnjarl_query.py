@@ -34,7 +34,7 @@ from concurrent.futures import Executor, wait
 from contextlib import contextmanager, suppress
 from dataclasses import dataclass
 from pathlib import Path
-from typing import Any, Callable, ContextManager, Dict, Iterable, Iterator, List, Mapping, NamedTuple, Optional, Sequence, Tuple, Union
+from typing import Any, Callable, ContextManager, Dict, Iterator, List, Mapping, NamedTuple, Optional, Sequence, Tuple, Union
 
 import pifnjarl
 from pifnjarl import Commands, Device, DeviceError, FilePath, Zone, ZoneState
@@ -76,23 +76,42 @@ class AnswerDamaged(DeviceError):
 
 
 class _Tally(NamedTuple):
-    """What is done with a tally: how its value is had of its word in scratch, and how the values of several runs come to one."""
+    """What is done with a tally of a field, which is signed or not: how its value is had of its word in scratch, and how the values of
+    several runs come to one."""
 
-    value: Callable[[int], int]
-    joined: Callable[[Iterable[int]], int]
+    value: Callable[[int, bool], int]
+    joined: Callable[[Sequence[int], bool], int]
 
 
-def _total(numbers: Iterable[int]) -> int:
+def _number(word: int, signed: bool) -> int:
+    """A word of 64 bits as a number, in two's complement if it is signed.
+
+    >>> _number(2**64 - 1, True), _number(2**64 - 1, False)
+    (-1, 18446744073709551615)
+    """
+    return word - 2**64 if signed and word >> 63 else word
+
+
+def _above_least(rank: int, signed: bool) -> int:
+    """The number that is so far above the least one of 64 bits.
+
+    >>> _above_least(1, False), _above_least(2**63 - 2, True)
+    (1, -2)
+    """
+    return rank - 2**63 if signed else rank
+
+
+def _total(numbers: Sequence[int], signed: bool) -> int:
     """A sum modulo 2^64."""
-    return sum(numbers) % 2**64
+    return _number(sum(numbers) % 2**64, signed)
 
 
 # the words by which records are tallied, in the order of their words in scratch, which docs/command_line.md has
 _TALLIES = {
-    "count": _Tally(int, _total),
-    "sum": _Tally(int, _total),
-    "least": _Tally(lambda word: 2**64 - 1 - word, min),
-    "greatest": _Tally(int, max),
+    "count": _Tally(_number, _total),
+    "sum": _Tally(_number, _total),
+    "least": _Tally(lambda word, signed: _above_least(2**64 - 1 - word, signed), lambda values, _: min(values)),
+    "greatest": _Tally(_above_least, lambda values, _: max(values)),
 }
 
 # all words of `zscli query` that say what is wanted
@@ -286,15 +305,16 @@ class _Tallied:
     appends = False
     form = "--json"
 
-    def __init__(self, names: List[str]) -> None:
-        """The names begin with the count."""
-        self.names = names
+    def __init__(self, names: List[str], signed: List[bool]) -> None:
+        """The names, which begin with the count, and which of them are of a signed field."""
+        self.names, self.signed = names, signed
 
     def piece(self, device: Commands, slot: int, lba: int, done: pifnjarl.Result) -> Tallies:
         """What a run left in scratch."""
         words = struct.unpack_from(f"<{len(self.names)}Q", device.result(slot))
         # a count of 0 stands for 2^64 records too, which no device has
-        return self._of([_TALLIES[name].value(word) for name, word in zip(self.names, words)], words[0] == 0)
+        values = [_TALLIES[name].value(word, signed) for name, word, signed in zip(self.names, words, self.signed)]
+        return self._of(values, words[0] == 0)
 
     def printed(self, text: bytes) -> Tallies:
         """What `zscli query` printed in this form: one row, whose columns are these."""
@@ -304,7 +324,7 @@ class _Tallied:
     def answer(self, pieces: Sequence[Any]) -> Tallies:
         """The tallies of all runs."""
         columns = [[value for piece in pieces if (value := getattr(piece, name)) is not None] for name in self.names]
-        joined = [_TALLIES[name].joined(values or [0]) for name, values in zip(self.names, columns)]
+        joined = [_TALLIES[name].joined(values or [0], signed) for name, values, signed in zip(self.names, columns, self.signed)]
         return self._of(joined, not any(piece.count for piece in pieces))
 
     def _of(self, values: Sequence[int], is_none: bool) -> Tallies:
@@ -430,6 +450,8 @@ class Question:
             words = {**words, "count": words.get("count") or True}
         self._options = [f"--where={where}", *_options(words)]
         self._names = [name for name in _TALLIES if words.get(name)]
+        # of the fields that are tallied the layout says the types
+        self._signed = [re.search(rf"^[ \t]*{words[name]}[ \t]+i", self._text, re.M) is not None for name in self._names]
         self._is_whole = words.get("select") is None
         self._compiled: Dict[int, _Compiled] = {}
 
@@ -506,7 +528,7 @@ class Question:
         """What comes of the question, by what `zscli` says of it."""
         selected = _SELECT.search(told)
         if selected is None:
-            return _Tallied(self._names)
+            return _Tallied(self._names, self._signed)
         columns = [
             Column(name, kind, int(number) // (8 if kind in ("u", "i") else 1), big == "be", int(offset))
             for name, kind, number, big, offset in _COLUMN.findall(selected[1])

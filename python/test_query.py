@@ -111,6 +111,10 @@ class Answers(Over):
         self.assertEqual(none, Tallies(0, 0, None, None))
         self.assertEqual(device.query(0, LAYOUT, "region == 9", count=True), Tallies(0))
         device.append(64, struct.pack("<2Q", 2**64 - 1, 5).ljust(512, b"\0"))
+        signed = device.query(0, LAYOUT, "price > arg", argument=9, sum="temperature", least="temperature", greatest="temperature")
+        values = [row.temperature for row in rows if row.price > 9]
+        self.assertEqual(signed, Tallies(len(values), sum(values), min(values), max(values)))
+        self.assertEqual(device.query(0, LAYOUT, "region == 9", sum="temperature", least="temperature"), Tallies(0, 0))
         large = device.query(64, [("n", "u64")], "n != 0", sum="n", least="n", greatest="n")
         self.assertEqual(large, Tallies(2, 4, 5, 2**64 - 1))
 

@@ -231,13 +231,13 @@ class Draw:
 
     def wanted(self) -> Tuple[List[str], List[Column], List[Tuple[str, Tally]]]:
         """The words, with the columns, or the tallies by their names in a row."""
-        unsigned = [column for column in self.columns if column.field is not None and not column.field.signed]
+        numbers = [column for column in self.columns if column.field is not None]
         if self.maybe(0.4):
             named: List[Tuple[str, Tally]] = []
             words: List[str] = []
             for kind in ("sum", "least", "greatest"):
-                if unsigned and self.maybe(0.6):
-                    column = self.rng.choice(unsigned)
+                if numbers and self.maybe(0.6):
+                    column = self.rng.choice(numbers)
                     words += [f"--{kind}", column.name]
                     named.append((f"{kind}({column.name})", Tally(kind, column.field)))
             if not words or self.maybe(0.5):
@@ -320,15 +320,19 @@ def answer_of(
 
 
 def tally_value(tally: Tally, records: List[bytes]) -> Optional[int]:
-    """What a tally's word says: of no record there is no least and no greatest, of the least the word has it subtracted.
+    """What a tally's word says: of no record there is no least and no greatest; of a sum the word is in two's complement, if the field is
+    signed; the word of a greatest is its rank, and that of a least has the rank subtracted.
 
     >>> tally_value(Tally("least", Field(1, 0)), [b"\\3", b"\\2"]), tally_value(Tally("least", Field(1, 0)), [])
     (2, None)
+    >>> [tally_value(Tally(kind, Field(1, 0, signed=True)), [b"\\xfe", b"\\1"]) for kind in ("sum", "least", "greatest")]
+    [-1, -2, 1]
     """
-    word = meaning.tally_from(tally, records, 0)
-    if tally.kind in ("least", "greatest") and not records:
-        return None
-    return 2**64 - 1 - word if tally.kind == "least" else word
+    word, signed = meaning.tally_from(tally, records, 0), tally.field is not None and tally.field.signed
+    if tally.kind in ("least", "greatest"):
+        rank = 2**64 - 1 - word if tally.kind == "least" else word
+        return rank - (2**63 if signed else 0) if records else None
+    return meaning.twos_complement(8, word) if signed else word
 
 
 def cell(column: Column, record: bytes) -> object:

@@ -217,18 +217,36 @@ def answer(question: Question, argument: int, block: bytes) -> List[bytes]:
     return [] if question.emitted is None else [cut(question.emitted, record) for record in matching(question, argument, block)]
 
 
+def word_in(field: Field, record: Record) -> int:
+    """The word that a field of a record is loaded as: its value, in two's complement.
+
+    >>> word_in(Field(1, 0, signed=True), b"\\xff") == 2**64 - 1
+    True
+    """
+    return value_of(field, record) % 2**64
+
+
+def rank_in(field: Field, record: Record) -> int:
+    """How far a field's value is above the least that 64 bits hold of its sign.
+
+    >>> rank_in(Field(1, 0), b"\\2"), rank_in(Field(1, 0, signed=True), b"\\xff") == 2**63 - 1
+    (2, True)
+    """
+    return value_of(field, record) + (2**63 if field.signed else 0)
+
+
 def tally_step(tally: Tally, record: Record, word: int) -> int:
     """A tally's word with one record more.
 
     >>> tally_step(Tally("sum", Field(1, 0)), b"\\2", 2**64 - 1), tally_step(Tally("least", Field(1, 0)), b"\\2", 0) == 2**64 - 3
     (1, True)
     """
-    number = 0 if tally.field is None else number_in(tally.field, record)
+    if tally.field is None:
+        return (word + 1) % 2**64
     steps: Dict[str, int] = {
-        "count": (word + 1) % 2**64,
-        "sum": (word + number) % 2**64,
-        "least": max(word, 2**64 - 1 - number),
-        "greatest": max(word, number),
+        "sum": (word + word_in(tally.field, record)) % 2**64,
+        "least": max(word, 2**64 - 1 - rank_in(tally.field, record)),
+        "greatest": max(word, rank_in(tally.field, record)),
     }
     return steps[tally.kind]
 
