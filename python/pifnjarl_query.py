@@ -9,6 +9,9 @@ which makes the programs, and whose sentences a wrong question gets.
     >>> with example() as device:
     ...     device.query(0, LAYOUT, "region == arg", argument=3, count=True, sum="price", least="price")
     Tallies(count=2, sum=420, least=20, greatest=None)
+    >>> with example() as device:
+    ...     device.query(0, LAYOUT, "price != 0", sum="price", by="region")
+    {1: Tallies(count=1, sum=3, least=None, greatest=None), 3: Tallies(count=2, sum=420, least=None, greatest=None)}
 
 A layout is the text of a layout file, its path, a list of fields, each with its name, its type and its offset, or a dtype of numpy; of a
 dtype the rows are an array of that dtype.
@@ -76,27 +79,46 @@ class AnswerDamaged(DeviceError):
 
 
 class _Tally(NamedTuple):
-    """What is done with a tally: how its value is had of its word in scratch, and how the values of several runs come to one."""
+    """What is done with a tally of a field, which is signed or not: how its value is had of its word in scratch, and how the values of
+    several runs come to one."""
 
-    value: Callable[[int], int]
-    joined: Callable[[Iterable[int]], int]
+    value: Callable[[int, bool], int]
+    joined: Callable[[Sequence[int], bool], int]
 
 
-def _total(numbers: Iterable[int]) -> int:
+def _number(word: int, signed: bool) -> int:
+    """A word of 64 bits as a number, in two's complement if it is signed.
+
+    >>> _number(2**64 - 1, True), _number(2**64 - 1, False)
+    (-1, 18446744073709551615)
+    """
+    return word - 2**64 if signed and word >> 63 else word
+
+
+def _above_least(rank: int, signed: bool) -> int:
+    """The number that is so far above the least one of 64 bits.
+
+    >>> _above_least(1, False), _above_least(2**63 - 2, True)
+    (1, -2)
+    """
+    return rank - 2**63 if signed else rank
+
+
+def _total(numbers: Sequence[int], signed: bool) -> int:
     """A sum modulo 2^64."""
-    return sum(numbers) % 2**64
+    return _number(sum(numbers) % 2**64, signed)
 
 
 # the words by which records are tallied, in the order of their words in scratch, which docs/command_line.md has
 _TALLIES = {
-    "count": _Tally(int, _total),
-    "sum": _Tally(int, _total),
-    "least": _Tally(lambda word: 2**64 - 1 - word, min),
-    "greatest": _Tally(int, max),
+    "count": _Tally(_number, _total),
+    "sum": _Tally(_number, _total),
+    "least": _Tally(lambda word, signed: _above_least(2**64 - 1 - word, signed), lambda values, _: min(values)),
+    "greatest": _Tally(_above_least, lambda values, _: max(values)),
 }
 
 # all words of `zscli query` that say what is wanted
-_WORDS = ("select", *_TALLIES)
+_WORDS = ("select", *_TALLIES, "by")
 
 
 def _options(words: Mapping[str, Any]) -> List[str]:
@@ -113,11 +135,16 @@ def _options(words: Mapping[str, Any]) -> List[str]:
             continue
         if (value is True) != (name == "count"):
             raise TypeError("count is True or False" if name == "count" else f"{name} wants the name of a field")
-        fields = value if value is True or isinstance(value, str) else ",".join(value)
+        fields = value if value is True else _names(value)
         if not fields:
             raise ValueError(f"{name} names no field")
         found.append(f"--{name}" if value is True else f"--{name}={fields}")
     return found
+
+
+def _names(value: Any) -> str:
+    """The name of a field, or the names of several with commas between them."""
+    return value if isinstance(value, str) else ",".join(value)
 
 
 # ---- layouts
@@ -211,6 +238,16 @@ def _text_of(layout: Layout) -> Tuple[str, str]:
         raise DeviceError(f"{layout}: {(error.strerror or str(error)).lower()}; name a layout file, or give its text") from None
 
 
+def _signed_fields(text: str) -> List[str]:
+    """The names of the signed fields of a layout.
+
+    >>> _signed_fields("records 8 ; of\\nheight i16be@0\\n\\tprice u32  @4 ; i32\\n;low i8 @2\\n")
+    ['height']
+    """
+    lines = [line.partition(";")[0].split() for line in text.split("\n")]
+    return [line[0] for line in lines if line[1:] and line[1].startswith("i")]
+
+
 # ---- what comes of a question
 
 
@@ -240,9 +277,9 @@ class _Rows:
         self.offset = min(column.offset for column in columns)
         self.size = max(column.offset + column.size for column in columns) - self.offset
 
-    def piece(self, device: Commands, slot: int, lba: int, done: pifnjarl.Result) -> bytes:
-        """What a run appended from an LBA on."""
-        return unpacked(device.read(lba, done.blocks), device.geometry.block, self.size, done.records)
+    def pieces(self, device: Commands, runs: Iterable[_Ran]) -> List[Any]:
+        """What each run appended."""
+        return [unpacked(device.read(ran.lba, ran.result.blocks), device.geometry.block, self.size, ran.result.records) for ran in runs]
 
     def printed(self, text: bytes) -> bytes:
         """What `zscli query` printed in this form."""
@@ -286,33 +323,99 @@ class _Tallied:
     appends = False
     form = "--json"
 
-    def __init__(self, names: List[str]) -> None:
-        """The names begin with the count."""
-        self.names = names
+    def __init__(self, names: List[str], signed: List[bool]) -> None:
+        """The names, which begin with the count, and which of them are of a signed field."""
+        self.names, self.signed = names, signed
 
-    def piece(self, device: Commands, slot: int, lba: int, done: pifnjarl.Result) -> Tallies:
-        """What a run left in scratch."""
-        words = struct.unpack_from(f"<{len(self.names)}Q", device.result(slot))
-        # a count of 0 stands for 2^64 records too, which no device has
-        return self._of([_TALLIES[name].value(word) for name, word in zip(self.names, words)], words[0] == 0)
+    def pieces(self, device: Commands, runs: Iterable[_Ran]) -> List[Any]:
+        """What each run left in scratch."""
+        return [self._read(device.result(ran.slot), 0) for ran in runs]
 
-    def printed(self, text: bytes) -> Tallies:
+    def printed(self, text: bytes) -> Any:
         """What `zscli query` printed in this form: one row, whose columns are these."""
-        [row] = json.loads(text)
-        return Tallies(**dict(zip(self.names, row.values())))
+        [row] = _rows_of_json(text)
+        return self._named(row)
 
-    def answer(self, pieces: Sequence[Any]) -> Tallies:
+    def answer(self, pieces: Sequence[Any]) -> Any:
         """The tallies of all runs."""
+        return self._joined(pieces)
+
+    def _read(self, scratch: bytes, group: int) -> Tallies:
+        """What scratch has of the group with this number."""
+        words = struct.unpack_from(f"<{len(self.names)}Q", scratch, 8 * group * len(self.names))
+        # a count of 0 stands for 2^64 records too, which no device has
+        values = [_TALLIES[name].value(word, signed) for name, word, signed in zip(self.names, words, self.signed)]
+        return self._of(values, words[0] == 0)
+
+    def _joined(self, pieces: Sequence[Tallies]) -> Tallies:
+        """What these come to together."""
         columns = [[value for piece in pieces if (value := getattr(piece, name)) is not None] for name in self.names]
-        joined = [_TALLIES[name].joined(values or [0]) for name, values in zip(self.names, columns)]
+        joined = [_TALLIES[name].joined(values or [0], signed) for name, values, signed in zip(self.names, columns, self.signed)]
         return self._of(joined, not any(piece.count for piece in pieces))
 
     def _of(self, values: Sequence[int], is_none: bool) -> Tallies:
         """Tallies of these values; of no record there is no least and no greatest."""
-        named: Dict[str, Any] = dict(zip(self.names, values))
-        if is_none:
-            named.update({name: None for name in ("least", "greatest") if name in named})
-        return Tallies(**named)
+        return self._named([None if is_none and name in ("least", "greatest") else value for name, value in zip(self.names, values)])
+
+    def _named(self, values: Sequence[Any]) -> Tallies:
+        """Tallies of these values."""
+        return Tallies(**dict(zip(self.names, values)))
+
+
+class _Grouped(_Tallied):
+    """Tallies of each value of a field that is there. A piece of the answer is those of a device."""
+
+    def __init__(self, names: List[str], signed: List[bool], by: _By) -> None:
+        super().__init__(names, signed)
+        self.by = by
+
+    def pieces(self, device: Commands, runs: Iterable[_Ran]) -> List[Any]:
+        """What the runs left in scratch. Records of a value that has no group are refused, as `zscli query` does: if there may be some, one
+        program counts all records that match."""
+        pieces, counted = [], None
+        for ran in runs:
+            scratch = device.result(ran.slot)
+            if ran.program.first is None:
+                counted = (counted or 0) + struct.unpack_from("<Q", scratch)[0]
+            else:
+                pieces.append(self._groups(scratch, ran.program.first))
+        found = self.answer(pieces)
+        if counted is not None:
+            self._check(counted - sum(tallies.count for tallies in found.values()))
+        return [found]
+
+    def printed(self, text: bytes) -> Any:
+        """What `zscli query` printed in this form: a row of each value."""
+        return {value: self._named(row) for value, *row in _rows_of_json(text)}
+
+    def answer(self, pieces: Sequence[Any]) -> Any:
+        """The tallies of all pieces, in the order of the values."""
+        values = sorted({value for piece in pieces for value in piece})
+        return {value: self._joined([piece[value] for piece in pieces if value in piece]) for value in values}
+
+    def _groups(self, scratch: bytes, first: int) -> Dict[int, Tallies]:
+        """What scratch has of one value after another, from the first on, without those that are not there."""
+        groups = {first + group: self._read(scratch, group) for group in range(self.by.of_program)}
+        return {value: tallies for value, tallies in groups.items() if tallies.count}
+
+    def _check(self, records: int) -> None:
+        """Refuses so many records of a value that has no group, in the words of `zscli query`."""
+        if records:
+            name, last = self.by.name, self.by.last
+            raise QuestionRefused(
+                f"--by {name}: of the records that match {records} have a value of {last + 1} or more, and there are groups for 0 to "
+                f"{last}; add `&& {name} < {last + 1}` to the condition, or ask for fewer tallies"
+            )
+
+
+def _rows_of_json(text: bytes) -> List[List[Any]]:
+    """The rows of a list of objects, without their names, of which two may be the same.
+
+    >>> _rows_of_json(b'[{"count":3,"count":1},\\n{"count":4,"count":2}]')
+    [[3, 1], [4, 2]]
+    """
+    rows: List[List[Any]] = json.loads(text, object_pairs_hook=lambda pairs: [value for _, value in pairs])
+    return rows
 
 
 class Part(NamedTuple):
@@ -391,10 +494,29 @@ def _format_of(column: Column) -> str:
 
 
 class _Program(NamedTuple):
-    """A program's bytes, and the most that it emits for a block."""
+    """A program's bytes, the most that it emits for a block, and the first value that it has a group for, if it has groups."""
 
     code: bytes
     emit: int
+    first: Optional[int] = None
+
+
+class _Ran(NamedTuple):
+    """A run that has ended: its program and the slot of that, where it began to append, and what it came to."""
+
+    program: _Program
+    slot: int
+    lba: int
+    result: pifnjarl.Result
+
+
+class _By(NamedTuple):
+    """By what records are grouped: a field's name and its bits, the last value that has a group, and how many groups a program has."""
+
+    name: str
+    bits: int
+    last: int
+    of_program: int
 
 
 class _Compiled(NamedTuple):
@@ -406,7 +528,9 @@ class _Compiled(NamedTuple):
 
 _SELECT = re.compile(r"^select: (.*)$", re.M)
 _COLUMN = re.compile(r"(\w+) (u|i|text|bytes)(\d+)(be)? @(\d+)")
-_PROGRAM = re.compile(r"^program: .* \(--emit (\d+)\)$", re.M)
+_BY = re.compile(r"^by: (\w+) u(\d+)(?:be)? @\d+, of the values 0 to (\d+), a program for (\d+) values?$", re.M)
+_RECORDS = re.compile(r"^records: (\d+) ", re.M)
+_PROGRAM = re.compile(r"^program: .* for (\d+) records? of each block; .* \(--emit (\d+)\)$", re.M)
 
 
 class Question:
@@ -420,8 +544,8 @@ class Question:
     """
 
     def __init__(self, layout: Layout, where: str, *, numpy: bool = False, program: Optional[FilePath] = None, **words: Any) -> None:
-        """The words are `select`, with a name of a field or several, `count=True`, and `sum`, `least` and `greatest`, each with a name.
-        `program` is `zscli`, which makes the programs."""
+        """The words are `select`, with a name of a field or several, `count=True`, `sum`, `least` and `greatest`, each with a name, and
+        `by` with a name beside these. `program` is `zscli`, which makes the programs."""
         self._file, self._text = _text_of(layout)
         self._dtype: Any = layout if _is_dtype(layout) else None
         self._numpy, self._zscli = numpy, program
@@ -430,6 +554,11 @@ class Question:
             words = {**words, "count": words.get("count") or True}
         self._options = [f"--where={where}", *_options(words)]
         self._names = [name for name in _TALLIES if words.get(name)]
+        # of the fields that are tallied the layout says the types
+        signed = _signed_fields(self._text)
+        self._signed = [name != "count" and _names(words[name]) in signed for name in self._names]
+        # with groups, how many records match says whether some have no group
+        self._counting = Question(self._text, where, program=program, count=True) if words.get("by") else None
         self._is_whole = words.get("select") is None
         self._compiled: Dict[int, _Compiled] = {}
 
@@ -437,8 +566,7 @@ class Question:
         """Makes the programs for blocks of so many bytes, if they aren't there yet. Of a wrong question it raises `QuestionRefused`."""
         if block not in self._compiled:
             told = self._told(f"--block={block}", "--explain")
-            programs = [_Program(self._program(block, part), int(emit)) for part, emit in enumerate(_PROGRAM.findall(told))]
-            self._compiled[block] = _Compiled(programs, self._answers(told))
+            self._compiled[block] = _Compiled(self._programs(block, told), self._answers(told))
 
     def ask(
         self,
@@ -477,11 +605,13 @@ class Question:
             return Part(compiled.answers, [])
         appends = compiled.answers.appends
         to = _answer_zone(zones, source, into, appends)
-        asking = _Asking(device, compiled.programs, argument, source, to, _slots(device, len(compiled.programs), slots))
+        # the programs of groups may be many, and each runs once
+        most = 1 if isinstance(compiled.answers, _Grouped) else len(compiled.programs)
+        asking = _Asking(device, compiled.programs, argument, source, to, _slots(device, most, slots))
         if blocks is None:
             blocks = asking.written()
         with asking.opened():
-            return Part(compiled.answers, [compiled.answers.piece(device, *run) for run in asking.runs(blocks, appends)])
+            return Part(compiled.answers, compiled.answers.pieces(device, asking.runs(blocks, appends)))
 
     def part_of_image(self, image: FilePath, zone: int, *, blocks: Optional[int] = None, argument: int = 0) -> Part:
         """The same of an image or a journal that no program has: `zscli query` asks a device in memory, and the file stays as it is.
@@ -506,7 +636,8 @@ class Question:
         """What comes of the question, by what `zscli` says of it."""
         selected = _SELECT.search(told)
         if selected is None:
-            return _Tallied(self._names)
+            by = _by(told)
+            return _Grouped(self._names, self._signed, by) if by else _Tallied(self._names, self._signed)
         columns = [
             Column(name, kind, int(number) // (8 if kind in ("u", "i") else 1), big == "be", int(offset))
             for name, kind, number, big, offset in _COLUMN.findall(selected[1])
@@ -514,6 +645,20 @@ class Question:
         if self._dtype is not None or self._numpy:
             return _Array(columns, self._dtype, self._dtype is not None and self._is_whole)
         return _Rows(columns)
+
+    def _programs(self, block: int, told: str) -> List[_Program]:
+        """The programs, by what `zscli` says of the question. With groups there are those for the first values, which have all records of a
+        block together, then those for the next."""
+        [all_records] = _RECORDS.findall(told)
+        by, found, before = _by(told), [], 0
+        for part, (records, emit) in enumerate(_PROGRAM.findall(told)):
+            first = before // int(all_records) * by.of_program if by else None
+            found.append(_Program(self._program(block, part), int(emit), first))
+            before += int(records)
+        if by and by.bits > 8 and self._counting:
+            self._counting.compile(block)
+            found += self._counting._compiled[block].programs
+        return found
 
     def _program(self, block: int, part: int) -> bytes:
         """The bytes of one of the programs."""
@@ -540,6 +685,18 @@ class Question:
             # the line at the end is for programs
             raise QuestionRefused(told.rpartition("\n")[0])
         raise DeviceError(told or f"zscli ended with status {ran.returncode}")
+
+
+def _by(told: str) -> Optional[_By]:
+    """By what records are grouped, if they are, by what `zscli` says of the question.
+
+    >>> _by("by: number u16be @0, of the values 0 to 63, a program for 64 values\\n")
+    _By(name='number', bits=16, last=63, of_program=64)
+    """
+    if "\nby: " not in f"\n{told}":
+        return None
+    [(name, bits, last, of_program)] = _BY.findall(told)
+    return _By(name, int(bits), int(last), int(of_program))
 
 
 def _check_blocks(blocks: Optional[int]) -> None:
@@ -570,8 +727,9 @@ def query_all(
     **words: Any,
 ) -> Any:
     """Asks several devices one question side by side, each in a call of an executor, and gives one answer: rows in the order of the
-    devices, or the tallies of them all. The zone is one for all, or one for each; the words are those of `Commands.query`. It ends
-    when all devices are done; if one fails, its error is raised, of several the first in the order of the devices.
+    devices, or the tallies of them all, with `by` those of each value. The zone is one for all, or one for each; the words are those of
+    `Commands.query`. It ends when all devices are done; if one fails, its error is raised, of several the first in the order of the
+    devices.
 
     An executor is one of `concurrent.futures`, or a `distributed.Client` of Dask. A device that is open can be asked in a thread of this
     process alone; other processes and machines get an image's path, or a function that opens a device there, of a module that they have.
@@ -690,9 +848,8 @@ class _Asking:
             raise
         self._device.reset(self._to.start)
 
-    def runs(self, blocks: int, appends: bool) -> Iterator[Tuple[int, int, pifnjarl.Result]]:
-        """Runs the programs over so many blocks, and gives of each run that has ended the slot, where it began to append, and what it
-        came to."""
+    def runs(self, blocks: int, appends: bool) -> Iterator[_Ran]:
+        """Runs the programs over so many blocks, and gives each run that has ended."""
         # the records of several programs come in order where each run is over one block; what a run appends fits an empty zone, as no
         # program emits more than a block for one
         most = 1 if appends and len(self._programs) > 1 else _MOST_BLOCKS
@@ -700,7 +857,7 @@ class _Asking:
             for index in range(len(self._programs)):
                 yield self._run(index, self._source.start + before, min(most, blocks - before))
 
-    def _run(self, index: int, lba: int, blocks: int) -> Tuple[int, int, pifnjarl.Result]:
+    def _run(self, index: int, lba: int, blocks: int) -> _Ran:
         """Runs a program over blocks, to its end."""
         program, slot = self._programs[index], self._held(index)
         # what is emitted for so many blocks goes into one, whatever matches
@@ -711,7 +868,7 @@ class _Asking:
             self._used = 0
         done = self._device._run_to_end(slot, lba, blocks, self._to.start, self._argument)
         at, self._used = self._to.start + self._used, self._used + done.blocks
-        return slot, at, done
+        return _Ran(program, slot, at, done)
 
     def _held(self, index: int) -> int:
         """The slot of a program, which is loaded there where it isn't yet."""

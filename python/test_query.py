@@ -68,6 +68,16 @@ def data(rows: List[Order], block: int = 512) -> bytes:
     return found.ljust(-(-len(found) // block) * block, b"\0")
 
 
+def groups(rows: List[Order], by: str) -> Dict[int, Tallies]:
+    """Of each value of a field the tallies of the rows that have it: their temperatures' sum and least, and their greatest price."""
+    found = {}
+    for value in sorted({getattr(row, by) for row in rows}):
+        its = [row for row in rows if getattr(row, by) == value]
+        heats = [row.temperature for row in its]
+        found[value] = Tallies(len(its), sum(heats), min(heats), max(row.price for row in its))
+    return found
+
+
 class Over(unittest.TestCase):
     """Each test has a folder of its own."""
 
@@ -111,8 +121,56 @@ class Answers(Over):
         self.assertEqual(none, Tallies(0, 0, None, None))
         self.assertEqual(device.query(0, LAYOUT, "region == 9", count=True), Tallies(0))
         device.append(64, struct.pack("<2Q", 2**64 - 1, 5).ljust(512, b"\0"))
+        signed = device.query(0, LAYOUT, "price > arg", argument=9, sum="temperature", least="temperature", greatest="temperature")
+        values = [row.temperature for row in rows if row.price > 9]
+        self.assertEqual(signed, Tallies(len(values), sum(values), min(values), max(values)))
+        self.assertEqual(device.query(0, LAYOUT, "region == 9", sum="temperature", least="temperature"), Tallies(0, 0))
         large = device.query(64, [("n", "u64")], "n != 0", sum="n", least="n", greatest="n")
         self.assertEqual(large, Tallies(2, 4, 5, 2**64 - 1))
+
+    def test_signs_are_those_of_the_layout(self) -> None:
+        """Also at the ends of 64 bits, where a sum passes them, and where the layout has blanks, comments and a name in a list."""
+        device = self.device()
+        ends = [-(2**63), 2**63 - 1, -1, -1]
+        device.append(0, struct.pack("<4q", *ends).ljust(512, b"\0"))
+        signed, unsigned = "; n u64\nrecords 8 count 4\n\t n\ti64@0;\n", "records 8 count 4\nn u64 @0 ; n i64\n"
+        for layout, values in ((signed, ends), (unsigned, [value % 2**64 for value in ends])):
+            found = device.query(0, layout, "bytes@7 != 0x00", sum=["n"], least=["n"], greatest="n")
+            low = min(0, min(values))
+            self.assertEqual(found, Tallies(4, (sum(values) - low) % 2**64 + low, min(values), max(values)))
+
+    def test_tallies_of_each_value(self) -> None:
+        """Of a byte in as many programs as its values need, of a wider field in one; in blocks of several sizes."""
+        for block, blocks in ((512, 64), (4096, 3)):
+            device = self.device(f"{block}.img", block=block)
+            rows = orders(block // 32 * blocks)
+            device.append(0, data(rows, block))
+            tallied: Dict[str, Any] = {"sum": "temperature", "least": "temperature", "greatest": "price"}
+            found = device.query(0, LAYOUT, "price < arg", argument=2**31, by="region", **tallied)
+            self.assertEqual(found, groups([row for row in rows if row.price < 2**31], "region"))
+            self.assertEqual(list(found), sorted(found))
+            few = device.query(0, LAYOUT, "number in 1..=31", by="number", **tallied)
+            self.assertEqual(few, groups(rows[:31], "number"))
+            self.assertEqual(device.query(0, LAYOUT, "region == 9", by="region", count=True), {})
+            counts = {region: Tallies(tallies.count) for region, tallies in groups(rows, "region").items()}
+            self.assertEqual(device.query(0, LAYOUT, "number != 0", by="region", count=True), counts)
+
+    def test_a_value_that_has_no_group_is_refused(self) -> None:
+        """By a device as by `zscli` of its image, and with the same sentence."""
+        device = self.device()
+        device.append(0, data(orders(16 * 20)))
+        device.save()
+        for where, total, lacking, last in (("number > 0", None, 193, 127), ("number > 60", "price", 257, 63)):
+            question = pifnjarl_query.Question(LAYOUT, where, count=True, sum=total, by="number")
+            said = (
+                f"--by number: of the records that match {lacking} have a value of {last + 1} or more, and there are groups for 0 to "
+                f"{last}; add `&& number < {last + 1}` to the condition, or ask for fewer tallies"
+            )
+            for ask in (partial(question.ask, device), partial(question.part_of_image, self.folder / "zoned.img")):
+                with self.assertRaises(pifnjarl_query.QuestionRefused) as refused:
+                    ask(0)
+                self.assertEqual(str(refused.exception), said)
+        self.assertEqual([zone.state for zone in device.report()[1:]], [ZoneState.EMPTY] * 3)
 
     def test_a_layout_is_given_in_several_ways(self) -> None:
         """As text, as a path, and as a list of fields, whose records are as long as these."""
@@ -208,14 +266,14 @@ class Drawn(Over):
     """Questions that are drawn, as tests/random_questions draws them."""
 
     def test_what_python_gives_follows_from_the_definitions(self) -> None:
-        """Rows and tallies, of devices and of images; bytes are in hexadecimal there."""
+        """Rows, tallies and groups, of devices and of images; bytes are in hexadecimal there."""
         for seed in range(1001, 1041):
             drawn = draw.draw(seed)
             for name, content in drawn.files.items():
                 (self.folder / name).write_bytes(content)
             words: Dict[str, Any] = {"count": "--count" in drawn.words}
             given = dict(zip(drawn.words, drawn.words[1:]))
-            words.update({name: given[f"--{name}"] for name in ("select", "sum", "least", "greatest") if f"--{name}" in given})
+            words.update({name: given[f"--{name}"] for name in ("select", "sum", "least", "greatest", "by") if f"--{name}" in given})
             [where] = [word[len("--where=") :] for word in drawn.words if word.startswith("--where=")]
             asked: Dict[str, Any] = {"argument": int(given.get("--argument", "0"))}
             if "--blocks" in given:
@@ -225,7 +283,10 @@ class Drawn(Over):
             with self.subTest(seed=seed, words=drawn.words):
                 if drawn.answer is None:
                     with self.assertRaises(pifnjarl_query.QuestionRefused):
-                        question.part_of_image(self.folder / "zoned.img", zone)
+                        question.part_of_image(self.folder / "zoned.img", zone, **asked)
+                    with pifnjarl.Device(self.folder / "zoned.img") as device:
+                        with self.assertRaises(pifnjarl_query.QuestionRefused):
+                            question.ask(device, zone, **asked)
                     continue
                 try:
                     of_image = pifnjarl_query.joined([question.part_of_image(self.folder / "zoned.img", zone, **asked)])
@@ -235,8 +296,11 @@ class Drawn(Over):
                 with pifnjarl.Device(self.folder / "zoned.img") as device:
                     found = question.ask(device, zone, **asked)
                 self.assertEqual(found, of_image)
+                kinds = [name.partition("(")[0] for name in drawn.answer.names]
                 if isinstance(found, Tallies):
-                    rows = [[getattr(found, name.partition("(")[0]) for name in drawn.answer.names]]
+                    rows = [[getattr(found, kind) for kind in kinds]]
+                elif isinstance(found, dict):
+                    rows = [[value, *(getattr(tallies, kind) for kind in kinds[1:])] for value, tallies in found.items()]
                 else:
                     rows = [[f"0x{cell.hex()}" if isinstance(cell, bytes) else cell for cell in row] for row in found]
                 self.assertEqual(rows, drawn.answer.rows)
@@ -414,6 +478,10 @@ class Wrong(Over):
             ("region == 3", ["--select=number,"], {"select": ["number", ""]}),
             ("region == 3", ["--sum=word"], {"sum": "word"}),
             ("region == 3", ["--count", "--select=number"], {"count": True, "select": "number"}),
+            ("region == 3", ["--sum=(["], {"sum": "(["}),
+            ("region == 3", ["--by=region"], {"by": "region"}),
+            ("region == 3", ["--count", "--by=temperature"], {"count": True, "by": "temperature"}),
+            ("region == 3", ["--count", "--by=regon"], {"count": True, "by": "regon"}),
         ]
         for where, options, words in cases:
             ran = subprocess.run([*line, f"--where={where}", *options], capture_output=True, text=True, check=False)
@@ -438,7 +506,8 @@ class Wrong(Over):
             ({"sum": ""}, "sum names no field"),
             ({"sum": True}, "sum wants the name of a field"),
             ({"count": "price"}, "count is True or False"),
-            ({"total": "price"}, "a question has no word 'total'; its words are select, count, sum, least, greatest"),
+            ({"count": True, "by": True}, "by wants the name of a field"),
+            ({"total": "price"}, "a question has no word 'total'; its words are select, count, sum, least, greatest, by"),
         ]
         for words, said in wrong:
             with self.assertRaisesRegex((TypeError, ValueError), said):
@@ -503,6 +572,12 @@ class Several(Over):
         self.assertEqual(last, Tallies(40, sum(prices), 601, max(prices)))
         none = pifnjarl.query_all(asked, 0, LAYOUT, "region == 9", executor=executor, **tallied)
         self.assertEqual(none, Tallies(0, 0, None, None))
+        tallied = {"sum": "temperature", "least": "temperature", "greatest": "price"}
+        all_rows = [row for its in self.rows for row in its]
+        for by, some in (("region", all_rows), ("number", [row for row in all_rows if row.number < 32])):
+            where = "number != 0" if by == "region" else "number < 32"
+            grouped = pifnjarl.query_all(asked, 0, LAYOUT, where, executor=executor, by=by, **tallied)
+            self.assertEqual((grouped, list(grouped)), (groups(some, by), sorted(grouped)))
         first = pifnjarl.query_all(asked, [0] * 5, LAYOUT, "number != 0", executor=executor, blocks=1, count=True)
         self.assertEqual(first, Tallies(3 * 16 + 2 * 128))
         other = pifnjarl.query_all(asked, [0, 64, 64, 64, 64], LAYOUT, "number != 0", executor=executor, select="number")

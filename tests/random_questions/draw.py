@@ -11,10 +11,11 @@ from random import Random
 from typing import Dict, List, NamedTuple, Optional, Sequence, Tuple
 
 import meaning
-from meaning import And, Argument, ByteRange, Bytes, Compare, Field, Not, Operand, Or, Predicate, Tally
+from meaning import And, Argument, ByteRange, Bytes, Compare, Field, Grouping, Not, Operand, Or, Predicate, Tally
 
 BLOCKS = (512, 1024, 2048, 4096, 8192, 16384)
 ZONES, ZONE = 3, 6
+SCRATCH_WORDS = 128
 COMPARISONS = ("==", "!=", "<", "<=", ">", ">=")
 LETTERS = b'aabc ,"\0\0\xff'
 
@@ -37,6 +38,23 @@ class Written(NamedTuple):
     binds: int = 2
 
 
+class Wanted(NamedTuple):
+    """What is wanted of the records that match: the words, and columns, or tallies with their names in a row and the column by whose value
+    there is a row of them, if there is one."""
+
+    words: List[str]
+    columns: Sequence[Column] = ()
+    tallies: Sequence[Tuple[str, Tally]] = ()
+    by: Optional[Column] = None
+
+    def grouping(self) -> Optional[Grouping]:
+        """The groups: of a byte all its values, and of a wider field as many as there are words for, a count among them."""
+        if self.by is None or self.by.field is None:
+            return None
+        words = 1 + sum(tally.kind != "count" for _, tally in self.tallies)
+        return Grouping(self.by.field, 0, 256 if self.by.size == 1 else SCRATCH_WORDS // words)
+
+
 class Answer(NamedTuple):
     """What a question's answer has: names, and rows of what records have in these columns, or tallies; and what is emitted of records."""
 
@@ -46,11 +64,12 @@ class Answer(NamedTuple):
 
 
 class Drawn(NamedTuple):
-    """A question: its files by their names, its words, and its answer, or that it is refused."""
+    """A question: its files by their names, its words, and its answer, or that it is refused, and how the sentence begins then."""
 
     files: Dict[str, bytes]
     words: List[str]
     answer: Optional[Answer]
+    told: str = ""
 
 
 def kind_of(field: Field) -> str:
@@ -229,47 +248,66 @@ class Draw:
 
     # ---- what is wanted of them
 
-    def wanted(self) -> Tuple[List[str], List[Column], List[Tuple[str, Tally]]]:
-        """The words, with the columns, or the tallies by their names in a row."""
-        unsigned = [column for column in self.columns if column.field is not None and not column.field.signed]
-        if self.maybe(0.4):
-            named: List[Tuple[str, Tally]] = []
-            words: List[str] = []
-            for kind in ("sum", "least", "greatest"):
-                if unsigned and self.maybe(0.6):
-                    column = self.rng.choice(unsigned)
-                    words += [f"--{kind}", column.name]
-                    named.append((f"{kind}({column.name})", Tally(kind, column.field)))
-            if not words or self.maybe(0.5):
-                words.append("--count")
-                # it is the first, whatever the order of the words
-                named.insert(0, ("count", Tally("count")))
-            return words, [], named
+    def wanted(self) -> Wanted:
+        """What is wanted."""
+        if self.maybe(0.5):
+            return self.tallies()
         if self.maybe(0.2):
-            return [], self.columns, []
+            return Wanted([], self.columns)
         some = self.rng.sample(self.columns, self.rng.randint(1, len(self.columns)))
-        return ["--select", ",".join(column.name for column in some)], some, []
+        return Wanted(["--select", ",".join(column.name for column in some)], some)
+
+    def tallies(self) -> Wanted:
+        """Tallies, of all records that match or of each value of a column."""
+        numbers = [column for column in self.columns if column.field is not None]
+        named: List[Tuple[str, Tally]] = []
+        words: List[str] = []
+        for kind in ("sum", "least", "greatest"):
+            if numbers and self.maybe(0.6):
+                column = self.rng.choice(numbers)
+                words += [f"--{kind}", column.name]
+                named.append((f"{kind}({column.name})", Tally(kind, column.field)))
+        if not words or self.maybe(0.5):
+            words.append("--count")
+            # it is the first, whatever the order of the words
+            named.insert(0, ("count", Tally("count")))
+        unsigned = [column for column in numbers if column.field is not None and not column.field.signed]
+        if not unsigned or self.maybe(0.5):
+            return Wanted(words, tallies=named)
+        by = self.rng.choice(unsigned)
+        return Wanted([*words, "--by", by.name], tallies=named, by=by)
 
     def drawn(self) -> Drawn:
         """The question."""
         blocks = self.blocks()
         condition = self.condition(self.rng.randint(0, 3))
-        words, columns, tallies = self.wanted()
+        wanted = self.wanted()
+        by = wanted.grouping()
+        by_name = "" if wanted.by is None else wanted.by.name
+        if by is not None and by.field.size > 1 and self.maybe(0.7):
+            # most values of a wide field have no group
+            text = f"{self.within(condition, 1)} && {by_name} < {by.values}"
+            condition = Written(text, And(condition.means, Compare(by.field, "<", by.values)), 1)
         emitted = None
-        if columns:
-            first = min(column.offset for column in columns)
-            emitted = ByteRange(first, max(column.offset + column.size for column in columns) - first)
-        question = meaning.Question(self.first, self.size, self.count, condition.means, emitted, [tally for _, tally in tallies])
+        if wanted.columns:
+            first = min(column.offset for column in wanted.columns)
+            emitted = ByteRange(first, max(column.offset + column.size for column in wanted.columns) - first)
+        tallies = [tally for _, tally in wanted.tallies]
+        question = meaning.Question(self.first, self.size, self.count, condition.means, emitted, tallies, by)
         asked = [blocks[at : at + self.block] for at in range(0, len(blocks), self.block)]
-        words += self.rng.choice([[], ["--csv"], ["--json"], ["--raw"] if columns else []])
+        words = wanted.words + self.rng.choice([[], ["--csv"], ["--json"], ["--raw"] if wanted.columns else []])
         if self.maybe(0.2):
             asked = asked[: self.rng.randint(1, len(asked))]
             words += ["--blocks", str(len(asked))]
         zone = self.rng.randrange(ZONES)
         front = ["query", "zoned.img", "--zone", str(zone), "--layout", "layout", f"--where={condition.text}"]
-        answer = answer_of(question, self.argument, asked, columns, tallies)
         given = ["--argument", str(self.argument)] if self.argument or self.maybe(0.5) else []
-        return Drawn({"zoned.img": image(self.block, zone, blocks), "layout": self.layout()}, [*front, *given, *words], answer)
+        files = {"zoned.img": image(self.block, zone, blocks), "layout": self.layout()}
+        lacking = lacking_groups(question, self.argument, asked)
+        if by is not None and lacking:
+            told = f"--by {by_name}: of the records that match {lacking} have a value of {by.values} or more"
+            return Drawn(files, [*front, *given, *words], None, told)
+        return Drawn(files, [*front, *given, *words], answer_of(question, self.argument, asked, wanted))
 
     # ---- questions that can't be asked
 
@@ -299,36 +337,67 @@ class Draw:
                 "",
             ]
         )
-        right = self.condition(2)
+        right, words = self.condition(2), ["--count"]
         text = wrong if not wrong or self.maybe(0.5) else self.rng.choice([f"({right.text}) && {wrong}", f"{wrong} || {right.text}"])
-        words = ["query", "zoned.img", "--zone", "0", "--layout", "layout", f"--where={text}", "--count"]
+        if self.maybe(0.2):
+            text, words = right.text, self.wrong_groups()
+        words = ["query", "zoned.img", "--zone", "0", "--layout", "layout", f"--where={text}", *words]
         return Drawn({"zoned.img": image(self.block, 0, self.blocks()), "layout": self.layout()}, words, None)
+
+    def wrong_groups(self) -> List[str]:
+        """The words for groups by what isn't an unsigned field of the layout, or without a tally."""
+        column = self.rng.choice(self.columns)
+        if column.field is None or column.field.signed:
+            return ["--count", "--by", column.name]
+        return self.rng.choice([["--by", column.name], ["--count", "--by", "unnamed"], ["--by", column.name, "--select", column.name]])
 
 
 # ---- answers
 
 
-def answer_of(
-    question: meaning.Question, argument: int, blocks: List[bytes], columns: List[Column], tallies: List[Tuple[str, Tally]]
-) -> Answer:
+def answer_of(question: meaning.Question, argument: int, blocks: List[bytes], wanted: Wanted) -> Answer:
     """The answer of a question about blocks."""
     emitted = b"".join(piece for block in blocks for piece in meaning.answer(question, argument, block))
-    records = [record for block in blocks for record in meaning.matching(question, argument, block)]
-    if tallies:
-        return Answer([name for name, _ in tallies], [[tally_value(tally, records) for _, tally in tallies]], emitted)
-    return Answer([column.name for column in columns], [[cell(column, record) for column in columns] for record in records], emitted)
+    records = matching_in(question, argument, blocks)
+    names = [column.name for column in wanted.columns] or [name for name, _ in wanted.tallies]
+    if wanted.columns:
+        return Answer(names, [[cell(column, record) for column in wanted.columns] for record in records], emitted)
+    if question.by is None or wanted.by is None:
+        return Answer(names, [tally_values(question, records)], emitted)
+    groups = [meaning.records_of(question.by, group, records) for group in range(meaning.groups(question.by))]
+    rows = [[question.by.first + group, *tally_values(question, some)] for group, some in enumerate(groups) if some]
+    return Answer([wanted.by.name, *names], rows, emitted)
+
+
+def matching_in(question: meaning.Question, argument: int, blocks: List[bytes]) -> List[bytes]:
+    """The records of blocks that match."""
+    return [record for block in blocks for record in meaning.matching(question, argument, block)]
+
+
+def lacking_groups(question: meaning.Question, argument: int, blocks: List[bytes]) -> int:
+    """How many of the records that match are of no group."""
+    return sum(meaning.group_of(question.by, record) is None for record in matching_in(question, argument, blocks))
+
+
+def tally_values(question: meaning.Question, records: List[bytes]) -> List[object]:
+    """What the words of all tallies of some records say."""
+    return [tally_value(tally, records) for tally in question.tallies]
 
 
 def tally_value(tally: Tally, records: List[bytes]) -> Optional[int]:
-    """What a tally's word says: of no record there is no least and no greatest, of the least the word has it subtracted.
+    """What a tally's word says: of no record there is no least and no greatest; of a sum the word is in two's complement, if the field is
+    signed; the word of a greatest is its rank, and that of a least has the rank subtracted.
 
     >>> tally_value(Tally("least", Field(1, 0)), [b"\\3", b"\\2"]), tally_value(Tally("least", Field(1, 0)), [])
     (2, None)
+    >>> [tally_value(Tally(kind, Field(1, 0, signed=True)), [b"\\xfe", b"\\1"]) for kind in ("sum", "least", "greatest")]
+    [-1, -2, 1]
     """
-    word = meaning.tally_from(tally, records, 0)
-    if tally.kind in ("least", "greatest") and not records:
-        return None
-    return 2**64 - 1 - word if tally.kind == "least" else word
+    word, signed = meaning.tally_from(tally, records, 0), tally.field is not None and tally.field.signed
+    if tally.kind in ("least", "greatest"):
+        rank = 2**64 - 1 - word if tally.kind == "least" else word
+        return rank - (2**63 if signed else 0) if records else None
+    return meaning.twos_complement(8, word) if signed else word
 
 
 def cell(column: Column, record: bytes) -> object:

@@ -89,6 +89,15 @@ class Tally:
 
 
 @dataclass(frozen=True)
+class Grouping:
+    """Groups of the records that match, by the value of a field: one for each of so many values from one on."""
+
+    field: Field
+    first: int
+    values: int
+
+
+@dataclass(frozen=True)
 class Question:
     """A question about the records of a block."""
 
@@ -98,6 +107,7 @@ class Question:
     wanted: Predicate
     emitted: Optional[ByteRange]
     tallies: List[Tally]
+    by: Optional[Grouping] = None
 
 
 def little_number(count: int, some: bytes) -> int:
@@ -217,20 +227,69 @@ def answer(question: Question, argument: int, block: bytes) -> List[bytes]:
     return [] if question.emitted is None else [cut(question.emitted, record) for record in matching(question, argument, block)]
 
 
+def word_in(field: Field, record: Record) -> int:
+    """The word that a field of a record is loaded as: its value, in two's complement.
+
+    >>> word_in(Field(1, 0, signed=True), b"\\xff") == 2**64 - 1
+    True
+    """
+    return value_of(field, record) % 2**64
+
+
+def rank_in(field: Field, record: Record) -> int:
+    """How far a field's value is above the least that 64 bits hold of its sign.
+
+    >>> rank_in(Field(1, 0), b"\\2"), rank_in(Field(1, 0, signed=True), b"\\xff") == 2**63 - 1
+    (2, True)
+    """
+    return value_of(field, record) + (2**63 if field.signed else 0)
+
+
 def tally_step(tally: Tally, record: Record, word: int) -> int:
     """A tally's word with one record more.
 
     >>> tally_step(Tally("sum", Field(1, 0)), b"\\2", 2**64 - 1), tally_step(Tally("least", Field(1, 0)), b"\\2", 0) == 2**64 - 3
     (1, True)
     """
-    number = 0 if tally.field is None else number_in(tally.field, record)
+    if tally.field is None:
+        return (word + 1) % 2**64
     steps: Dict[str, int] = {
-        "count": (word + 1) % 2**64,
-        "sum": (word + number) % 2**64,
-        "least": max(word, 2**64 - 1 - number),
-        "greatest": max(word, number),
+        "sum": (word + word_in(tally.field, record)) % 2**64,
+        "least": max(word, 2**64 - 1 - rank_in(tally.field, record)),
+        "greatest": max(word, rank_in(tally.field, record)),
     }
     return steps[tally.kind]
+
+
+def groups(by: Optional[Grouping]) -> int:
+    """How many groups there are."""
+    return 1 if by is None else by.values
+
+
+def group_of(by: Optional[Grouping], record: Record) -> Optional[int]:
+    """The group of a record, if it has one: the only one, or that of the value of the field.
+
+    >>> [group_of(Grouping(Field(1, 0), 3, 2), record) for record in (b"\2", b"\3", b"\4", b"\5")], group_of(None, b"\2")
+    ([None, 0, 1, None], 0)
+    """
+    if by is None:
+        return 0
+    value = number_in(by.field, record)
+    return value - by.first if by.first <= value < by.first + by.values else None
+
+
+def is_of(by: Optional[Grouping], group: int, record: Record) -> bool:
+    """Is a record of this group?"""
+    return by is None or number_in(by.field, record) == by.first + group
+
+
+def records_of(by: Optional[Grouping], group: int, records: List[Record]) -> List[Record]:
+    """Those of these records that are of a group, in order.
+
+    >>> records_of(Grouping(Field(1, 0), 0, 256), 97, [b"a1", b"b2", b"a3"])
+    [b'a1', b'a3']
+    """
+    return [record for record in records if is_of(by, group, record)]
 
 
 def tally_from(tally: Tally, records: List[Record], word: int) -> int:

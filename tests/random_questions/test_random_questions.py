@@ -83,7 +83,8 @@ def judged(drawn: draw.Drawn, status: int, printed: bytes, errors: str) -> Verdi
     if is_refused and errors.startswith(TOO_MANY):
         return Verdict(None, is_too_long=True)
     if drawn.answer is None:
-        return Verdict(None if is_refused and not printed else f"not refused: status {status}, {printed[:200]!r}, {errors!r}")
+        is_right = is_refused and not printed and errors.startswith(drawn.told)
+        return Verdict(None if is_right else f"not refused as {drawn.told!r}: status {status}, {printed[:200]!r}, {errors!r}")
     if status != 0:
         return Verdict(f"status {status}: {errors}")
     try:
