@@ -565,9 +565,18 @@ class Question:
             raise ValueError(f"{zone} is the lowest LBA of no zone of {os.fspath(image)}")
         _check_blocks(blocks)
         answers = self._answers(self._told(f"--block={geometry.block}", "--explain"))
+        path = os.path.abspath(image)
+        if blocks is None and self._is_unwritten(path, number):
+            return Part(answers, [])
         first = [] if blocks is None else [f"--blocks={blocks}"]
         words = [f"--zone={number}", f"--argument={argument}", *first, answers.form]
-        return Part(answers, [answers.printed(self._printed(*words, os.path.abspath(image)))])
+        return Part(answers, [answers.printed(self._printed(*words, path))])
+
+    def _is_unwritten(self, image: str, number: int) -> bool:
+        """Is no block of an image's zone written? One that is Offline is refused by `zscli query`."""
+        line = self._ran("zones", image).decode().split("\n")[number]
+        _, state, written = line.split()
+        return written == "0" and state != "offline"
 
     def _answers(self, told: str) -> Union[_Rows, _Tallied]:
         """What comes of the question, by what `zscli` says of it."""
@@ -594,15 +603,18 @@ class Question:
         return self._printed(*words).decode()
 
     def _printed(self, *words: str) -> bytes:
-        """What `zscli query` prints. A failure is raised, with its sentence, in which the layout has its file's name alone."""
+        """What `zscli query` prints. In sentences the layout has its file's name alone."""
         with tempfile.TemporaryDirectory() as folder:
             file = Path(folder) / self._file
             file.write_text(self._text, encoding="utf-8")
-            asked = [pifnjarl.zscli(self._zscli), "query", f"--layout={file}", *self._options, *words]
-            ran = subprocess.run(asked, stdin=subprocess.DEVNULL, capture_output=True, check=False)
+            return self._ran("query", f"--layout={file}", *self._options, *words, hidden=f"{folder}{os.sep}")
+
+    def _ran(self, *words: str, hidden: str = "") -> bytes:
+        """What `zscli` prints. A failure is raised, with its sentence, in which a part may be hidden."""
+        ran = subprocess.run([pifnjarl.zscli(self._zscli), *words], stdin=subprocess.DEVNULL, capture_output=True, check=False)
         if ran.returncode == 0:
             return ran.stdout
-        told = ran.stderr.decode(errors="replace").strip().replace(f"{folder}{os.sep}", "")
+        told = ran.stderr.decode(errors="replace").strip().replace(hidden, "")
         if ran.returncode == 3:
             # the line at the end is for programs
             raise QuestionRefused(told.rpartition("\n")[0])

@@ -179,6 +179,24 @@ class Answers(Over):
         with self.assertRaises(pifnjarl.NoSuchProgram):
             device.result(7)
 
+    def test_an_image_in_which_nothing_is_written(self) -> None:
+        """It has no record, whatever its zone's state; of one that is Offline nothing is known, and of its first blocks there are none."""
+        device = self.device()
+        device.open(64)
+        device.finish(128)
+        device.fault(192, ZoneState.OFFLINE)
+        device.save()
+        image = self.folder / "zoned.img"
+        counted = pifnjarl_query.Question(LAYOUT, "number != 0", least="price")
+        for zone in (0, 64, 128):
+            self.assertEqual(pifnjarl_query.Question(LAYOUT, "number != 0").ask_image(image, zone), [])
+            self.assertEqual(counted.ask_image(image, zone), Tallies(0))
+            self.assertEqual(pifnjarl_query.Question(LAYOUT, "number != 0", count=True, by="region").ask_image(image, zone), {})
+            with self.assertRaisesRegex(pifnjarl_query.QuestionRefused, "no block of the zone is written"):
+                counted.ask_image(image, zone, blocks=1)
+        with self.assertRaisesRegex(pifnjarl_query.QuestionRefused, "the zone is offline"):
+            counted.ask_image(image, 192)
+
     def test_a_layout_is_given_in_several_ways(self) -> None:
         """As text, as a path, and as a list of fields, whose records are as long as these."""
         device = self.device()
