@@ -649,9 +649,9 @@ def query_all(
     **words: Any,
 ) -> Any:
     """Asks several devices one question side by side, each in a call of an executor, and gives one answer: rows in the order of the
-    devices, or the tallies of them all, of images also by the values of a field. The zone is one for all, or one for each; the words are
-    those of `Question`. It ends when all devices are done; if one fails, its error is raised, of several the first in the order of the
-    devices.
+    devices, or the tallies of them all; with `by`, which is for images alone, those of each value. The zone is one for all, or one for
+    each; the words are those of `Question`. It ends when all devices are done; if one fails, its error is raised, of several the first in
+    the order of the devices.
 
     An executor is one of `concurrent.futures`, or a `distributed.Client` of Dask. A device that is open can be asked in a thread of this
     process alone; other processes and machines get an image's path, or a function that opens a device there, of a module that they have.
