@@ -495,7 +495,7 @@ class Question:
         """Makes the programs for blocks of so many bytes, if they aren't there yet. Of a wrong question it raises `QuestionRefused`, and of
         one with `by`, whose words only `zscli query` reads."""
         if self._is_grouped:
-            raise QuestionRefused("by: only an image or a journal is asked for tallies of each value, by its path; ask a device without by")
+            raise QuestionRefused("by: only an image or a journal is asked for tallies of each value, by Question.ask_image or query_all")
         if block not in self._compiled:
             told = self._told(f"--block={block}", "--explain")
             programs = [_Program(self._program(block, part), int(emit)) for part, emit in enumerate(_PROGRAM.findall(told))]
