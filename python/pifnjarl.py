@@ -1145,11 +1145,10 @@ class Commands:
         `zscli query` makes; pifnjarl_query.py says what that takes of it.
 
         The layout is the text of a layout file, its path, a list of fields, each with its name, its type and its offset, or a dtype of
-        numpy. The words are those of the command: with `select=["order", "price"]`, or without words, the answer is a list with a named
-        tuple for each record; where the layout is a dtype, or with `numpy`, it is an array. With `count=True`, `sum="price"`, `least` or
-        `greatest` it is one `Tallies` of the records, and with `by="region"` too a dict of one for each value of that field, in order.
-        What is appended goes to an Empty zone, the first or the one that `into` names, which is reset at the end. `slots` names slots
-        whose programs may be replaced, where no slot is free.
+        numpy. The words are those of the command but `by`: with `select=["order", "price"]`, or without words, the answer is a list with a
+        named tuple for each record; where the layout is a dtype, or with `numpy`, it is an array. With `count=True`, `sum="price"`, `least` or
+        `greatest` it is one `Tallies` of the records. What is appended goes to an Empty zone, the first or the one that `into` names,
+        which is reset at the end. `slots` names slots whose programs may be replaced, where no slot is free.
 
         >>> with example() as device:
         ...     first = device.append(0, b"\\x02lamps".ljust(512, b"\\0") + b"\\x01desk".ljust(512, b"\\0"))

@@ -1,7 +1,7 @@
 """Questions about the records of a zone, which programs on a device of pifnjarl.py answer beside the data.
 
-`query` asks one device, and `query_all` several side by side. The condition, the layout and the words are those of `zscli query`,
-which makes the programs, and whose sentences a wrong question gets.
+`query` asks one device, `Question.ask_image` an image by its path, and `query_all` several side by side. The condition, the layout and the
+words are those of `zscli query`, which makes the programs, and whose sentences a wrong question gets.
 
     >>> with example() as device:
     ...     device.query(0, LAYOUT, "region == 3", select=["order", "price"])
@@ -9,9 +9,6 @@ which makes the programs, and whose sentences a wrong question gets.
     >>> with example() as device:
     ...     device.query(0, LAYOUT, "region == arg", argument=3, count=True, sum="price", least="price")
     Tallies(count=2, sum=420, least=20, greatest=None)
-    >>> with example() as device:
-    ...     device.query(0, LAYOUT, "price != 0", sum="price", by="region")
-    {1: Tallies(count=1, sum=3, least=None, greatest=None), 3: Tallies(count=2, sum=420, least=None, greatest=None)}
 
 A layout is the text of a layout file, its path, a list of fields, each with its name, its type and its offset, or a dtype of numpy; of a
 dtype the rows are an array of that dtype.
@@ -37,7 +34,7 @@ from concurrent.futures import Executor, wait
 from contextlib import contextmanager, suppress
 from dataclasses import dataclass
 from pathlib import Path
-from typing import Any, Callable, ContextManager, Dict, Iterable, Iterator, List, Mapping, NamedTuple, Optional, Sequence, Tuple, Union
+from typing import Any, Callable, ContextManager, Dict, Iterator, List, Mapping, NamedTuple, Optional, Sequence, Tuple, Union
 
 import pifnjarl
 from pifnjarl import Commands, Device, DeviceError, FilePath, Zone, ZoneState
@@ -277,9 +274,9 @@ class _Rows:
         self.offset = min(column.offset for column in columns)
         self.size = max(column.offset + column.size for column in columns) - self.offset
 
-    def pieces(self, device: Commands, runs: Iterable[_Ran]) -> List[Any]:
-        """What each run appended."""
-        return [unpacked(device.read(ran.lba, ran.result.blocks), device.geometry.block, self.size, ran.result.records) for ran in runs]
+    def piece(self, device: Commands, slot: int, lba: int, done: pifnjarl.Result) -> bytes:
+        """What a run appended from an LBA on."""
+        return unpacked(device.read(lba, done.blocks), device.geometry.block, self.size, done.records)
 
     def printed(self, text: bytes) -> bytes:
         """What `zscli query` printed in this form."""
@@ -327,95 +324,49 @@ class _Tallied:
         """The names, which begin with the count, and which of them are of a signed field."""
         self.names, self.signed = names, signed
 
-    def pieces(self, device: Commands, runs: Iterable[_Ran]) -> List[Any]:
-        """What each run left in scratch."""
-        return [self._read(device.result(ran.slot), 0) for ran in runs]
-
-    def printed(self, text: bytes) -> Any:
-        """What `zscli query` printed in this form: one row, whose columns are these."""
-        [row] = _rows_of_json(text)
-        return self._named(row)
-
-    def answer(self, pieces: Sequence[Any]) -> Any:
-        """The tallies of all runs."""
-        return self._joined(pieces)
-
-    def _read(self, scratch: bytes, group: int) -> Tallies:
-        """What scratch has of the group with this number."""
-        words = struct.unpack_from(f"<{len(self.names)}Q", scratch, 8 * group * len(self.names))
+    def piece(self, device: Commands, slot: int, lba: int, done: pifnjarl.Result) -> Tallies:
+        """What a run left in scratch."""
+        words = struct.unpack_from(f"<{len(self.names)}Q", device.result(slot))
         # a count of 0 stands for 2^64 records too, which no device has
         values = [_TALLIES[name].value(word, signed) for name, word, signed in zip(self.names, words, self.signed)]
         return self._of(values, words[0] == 0)
 
+    def printed(self, text: bytes) -> Any:
+        """What `zscli query` printed in this form: one row, whose columns are these."""
+        [row] = json.loads(text)
+        return Tallies(**dict(zip(self.names, row.values())))
+
+    def answer(self, pieces: Sequence[Any]) -> Any:
+        """The tallies of all pieces."""
+        return self._joined(pieces)
+
     def _joined(self, pieces: Sequence[Tallies]) -> Tallies:
-        """What these come to together."""
+        """What some tallies come to together."""
         columns = [[value for piece in pieces if (value := getattr(piece, name)) is not None] for name in self.names]
         joined = [_TALLIES[name].joined(values or [0], signed) for name, values, signed in zip(self.names, columns, self.signed)]
         return self._of(joined, not any(piece.count for piece in pieces))
 
     def _of(self, values: Sequence[int], is_none: bool) -> Tallies:
         """Tallies of these values; of no record there is no least and no greatest."""
-        return self._named([None if is_none and name in ("least", "greatest") else value for name, value in zip(self.names, values)])
-
-    def _named(self, values: Sequence[Any]) -> Tallies:
-        """Tallies of these values."""
-        return Tallies(**dict(zip(self.names, values)))
+        named: Dict[str, Any] = dict(zip(self.names, values))
+        if is_none:
+            named.update({name: None for name in ("least", "greatest") if name in named})
+        return Tallies(**named)
 
 
 class _Grouped(_Tallied):
-    """Tallies of each value of a field that is there. A piece of the answer is those of a device."""
-
-    def __init__(self, names: List[str], signed: List[bool], by: _By) -> None:
-        super().__init__(names, signed)
-        self.by = by
-
-    def pieces(self, device: Commands, runs: Iterable[_Ran]) -> List[Any]:
-        """What the runs left in scratch. Records of a value that has no group are refused, as `zscli query` does: if there may be some, one
-        program counts all records that match."""
-        pieces, counted = [], None
-        for ran in runs:
-            scratch = device.result(ran.slot)
-            if ran.program.first is None:
-                counted = (counted or 0) + struct.unpack_from("<Q", scratch)[0]
-            else:
-                pieces.append(self._groups(scratch, ran.program.first))
-        found = self.answer(pieces)
-        if counted is not None:
-            self._check(counted - sum(tallies.count for tallies in found.values()))
-        return [found]
+    """Tallies of each value of a field that is there. A piece of the answer is those of an image."""
 
     def printed(self, text: bytes) -> Any:
-        """What `zscli query` printed in this form: a row of each value."""
-        return {value: self._named(row) for value, *row in _rows_of_json(text)}
+        """What `zscli query` printed in this form: a row of each value, which comes first."""
+        # (the value's column may have the name of a tally's)
+        rows = json.loads(text, object_pairs_hook=lambda pairs: [value for _, value in pairs])
+        return {value: Tallies(**dict(zip(self.names, row))) for value, *row in rows}
 
     def answer(self, pieces: Sequence[Any]) -> Any:
         """The tallies of all pieces, in the order of the values."""
         values = sorted({value for piece in pieces for value in piece})
         return {value: self._joined([piece[value] for piece in pieces if value in piece]) for value in values}
-
-    def _groups(self, scratch: bytes, first: int) -> Dict[int, Tallies]:
-        """What scratch has of one value after another, from the first on, without those that are not there."""
-        groups = {first + group: self._read(scratch, group) for group in range(self.by.of_program)}
-        return {value: tallies for value, tallies in groups.items() if tallies.count}
-
-    def _check(self, records: int) -> None:
-        """Refuses so many records of a value that has no group, in the words of `zscli query`."""
-        if records:
-            name, last = self.by.name, self.by.last
-            raise QuestionRefused(
-                f"--by {name}: of the records that match {records} have a value of {last + 1} or more, and there are groups for 0 to "
-                f"{last}; add `&& {name} < {last + 1}` to the condition, or ask for fewer tallies"
-            )
-
-
-def _rows_of_json(text: bytes) -> List[List[Any]]:
-    """The rows of a list of objects, without their names, of which two may be the same.
-
-    >>> _rows_of_json(b'[{"count":3,"count":1},\\n{"count":4,"count":2}]')
-    [[3, 1], [4, 2]]
-    """
-    rows: List[List[Any]] = json.loads(text, object_pairs_hook=lambda pairs: [value for _, value in pairs])
-    return rows
 
 
 class Part(NamedTuple):
@@ -494,29 +445,10 @@ def _format_of(column: Column) -> str:
 
 
 class _Program(NamedTuple):
-    """A program's bytes, the most that it emits for a block, and the first value that it has a group for, if it has groups."""
+    """A program's bytes, and the most that it emits for a block."""
 
     code: bytes
     emit: int
-    first: Optional[int] = None
-
-
-class _Ran(NamedTuple):
-    """A run that has ended: its program and the slot of that, where it began to append, and what it came to."""
-
-    program: _Program
-    slot: int
-    lba: int
-    result: pifnjarl.Result
-
-
-class _By(NamedTuple):
-    """By what records are grouped: a field's name and its bits, the last value that has a group, and how many groups a program has."""
-
-    name: str
-    bits: int
-    last: int
-    of_program: int
 
 
 class _Compiled(NamedTuple):
@@ -528,9 +460,7 @@ class _Compiled(NamedTuple):
 
 _SELECT = re.compile(r"^select: (.*)$", re.M)
 _COLUMN = re.compile(r"(\w+) (u|i|text|bytes)(\d+)(be)? @(\d+)")
-_BY = re.compile(r"^by: (\w+) u(\d+)(?:be)? @\d+, of the values 0 to (\d+), a program for (\d+) values?$", re.M)
-_RECORDS = re.compile(r"^records: (\d+) ", re.M)
-_PROGRAM = re.compile(r"^program: .* for (\d+) records? of each block; .* \(--emit (\d+)\)$", re.M)
+_PROGRAM = re.compile(r"^program: .* \(--emit (\d+)\)$", re.M)
 
 
 class Question:
@@ -557,16 +487,19 @@ class Question:
         # of the fields that are tallied the layout says the types
         signed = _signed_fields(self._text)
         self._signed = [name != "count" and _names(words[name]) in signed for name in self._names]
-        # with groups, how many records match says whether some have no group
-        self._counting = Question(self._text, where, program=program, count=True) if words.get("by") else None
+        self._is_grouped = bool(words.get("by"))
         self._is_whole = words.get("select") is None
         self._compiled: Dict[int, _Compiled] = {}
 
     def compile(self, block: int) -> None:
-        """Makes the programs for blocks of so many bytes, if they aren't there yet. Of a wrong question it raises `QuestionRefused`."""
+        """Makes the programs for blocks of so many bytes, if they aren't there yet. Of a wrong question it raises `QuestionRefused`, and of
+        one with `by`, whose words only `zscli query` reads."""
+        if self._is_grouped:
+            raise QuestionRefused("by: only an image or a journal is asked for tallies of each value, by Question.ask_image or query_all")
         if block not in self._compiled:
             told = self._told(f"--block={block}", "--explain")
-            self._compiled[block] = _Compiled(self._programs(block, told), self._answers(told))
+            programs = [_Program(self._program(block, part), int(emit)) for part, emit in enumerate(_PROGRAM.findall(told))]
+            self._compiled[block] = _Compiled(programs, self._answers(told))
 
     def ask(
         self,
@@ -605,39 +538,51 @@ class Question:
             return Part(compiled.answers, [])
         appends = compiled.answers.appends
         to = _answer_zone(zones, source, into, appends)
-        # the programs of groups may be many, and each runs once
-        most = 1 if isinstance(compiled.answers, _Grouped) else len(compiled.programs)
-        asking = _Asking(device, compiled.programs, argument, source, to, _slots(device, most, slots))
+        asking = _Asking(device, compiled.programs, argument, source, to, _slots(device, len(compiled.programs), slots))
         if blocks is None:
             blocks = asking.written()
         with asking.opened():
-            return Part(compiled.answers, compiled.answers.pieces(device, asking.runs(blocks, appends)))
+            return Part(compiled.answers, [compiled.answers.piece(device, *run) for run in asking.runs(blocks, appends)])
 
-    def part_of_image(self, image: FilePath, zone: int, *, blocks: Optional[int] = None, argument: int = 0) -> Part:
-        """The same of an image or a journal that no program has: `zscli query` asks a device in memory, and the file stays as it is.
+    def ask_image(self, image: FilePath, zone: int, *, blocks: Optional[int] = None, argument: int = 0) -> Any:
+        """Asks an image or a journal that no program has: `zscli query` asks a device in memory, and the file stays as it is.
 
         >>> with tempfile.TemporaryDirectory() as folder:
         ...     image = Path(folder) / "zoned.img"
         ...     geometry = pifnjarl.format_image(image)
-        ...     joined([Question(LAYOUT, "price != 0", count=True).part_of_image(image, 64)])
-        Tallies(count=0, sum=None, least=None, greatest=None)
+        ...     with pifnjarl.Device(image) as device:
+        ...         first = device.append(64, struct.pack("<8sII48x8sII", b"desk", 3, 90, b"lamp", 3, 20).ljust(512, b"\\0"))
+        ...     Question(LAYOUT, "price != 0", sum="price", by="region").ask_image(image, 64)
+        {3: Tallies(count=2, sum=110, least=None, greatest=None)}
         """
+        return joined([self.part_of_image(image, zone, blocks=blocks, argument=argument)])
+
+    def part_of_image(self, image: FilePath, zone: int, *, blocks: Optional[int] = None, argument: int = 0) -> Part:
+        """Asks as `ask_image` does, and gives the answer as a part of that of several."""
         geometry = pifnjarl.geometry_of(image)
         number, rest = divmod(zone, geometry.zone_size)
         if rest or not 0 <= number < geometry.zones:
             raise ValueError(f"{zone} is the lowest LBA of no zone of {os.fspath(image)}")
         _check_blocks(blocks)
         answers = self._answers(self._told(f"--block={geometry.block}", "--explain"))
+        path = os.path.abspath(image)
+        if blocks is None and self._is_unwritten(path, number):
+            return Part(answers, [])
         first = [] if blocks is None else [f"--blocks={blocks}"]
         words = [f"--zone={number}", f"--argument={argument}", *first, answers.form]
-        return Part(answers, [answers.printed(self._printed(*words, os.path.abspath(image)))])
+        return Part(answers, [answers.printed(self._printed(*words, path))])
+
+    def _is_unwritten(self, image: str, number: int) -> bool:
+        """Is no block of an image's zone written? One that is Offline is refused by `zscli query`."""
+        line = self._ran("zones", image).decode().split("\n")[number]
+        _, state, written = line.split()
+        return written == "0" and state != "offline"
 
     def _answers(self, told: str) -> Union[_Rows, _Tallied]:
         """What comes of the question, by what `zscli` says of it."""
         selected = _SELECT.search(told)
         if selected is None:
-            by = _by(told)
-            return _Grouped(self._names, self._signed, by) if by else _Tallied(self._names, self._signed)
+            return (_Grouped if self._is_grouped else _Tallied)(self._names, self._signed)
         columns = [
             Column(name, kind, int(number) // (8 if kind in ("u", "i") else 1), big == "be", int(offset))
             for name, kind, number, big, offset in _COLUMN.findall(selected[1])
@@ -645,20 +590,6 @@ class Question:
         if self._dtype is not None or self._numpy:
             return _Array(columns, self._dtype, self._dtype is not None and self._is_whole)
         return _Rows(columns)
-
-    def _programs(self, block: int, told: str) -> List[_Program]:
-        """The programs, by what `zscli` says of the question. With groups there are those for the first values, which have all records of a
-        block together, then those for the next."""
-        [all_records] = _RECORDS.findall(told)
-        by, found, before = _by(told), [], 0
-        for part, (records, emit) in enumerate(_PROGRAM.findall(told)):
-            first = before // int(all_records) * by.of_program if by else None
-            found.append(_Program(self._program(block, part), int(emit), first))
-            before += int(records)
-        if by and by.bits > 8 and self._counting:
-            self._counting.compile(block)
-            found += self._counting._compiled[block].programs
-        return found
 
     def _program(self, block: int, part: int) -> bytes:
         """The bytes of one of the programs."""
@@ -672,31 +603,22 @@ class Question:
         return self._printed(*words).decode()
 
     def _printed(self, *words: str) -> bytes:
-        """What `zscli query` prints. A failure is raised, with its sentence, in which the layout has its file's name alone."""
+        """What `zscli query` prints. In sentences the layout has its file's name alone."""
         with tempfile.TemporaryDirectory() as folder:
             file = Path(folder) / self._file
             file.write_text(self._text, encoding="utf-8")
-            asked = [pifnjarl.zscli(self._zscli), "query", f"--layout={file}", *self._options, *words]
-            ran = subprocess.run(asked, stdin=subprocess.DEVNULL, capture_output=True, check=False)
+            return self._ran("query", f"--layout={file}", *self._options, *words, hidden=f"{folder}{os.sep}")
+
+    def _ran(self, *words: str, hidden: str = "") -> bytes:
+        """What `zscli` prints. A failure is raised, with its sentence, in which a part may be hidden."""
+        ran = subprocess.run([pifnjarl.zscli(self._zscli), *words], stdin=subprocess.DEVNULL, capture_output=True, check=False)
         if ran.returncode == 0:
             return ran.stdout
-        told = ran.stderr.decode(errors="replace").strip().replace(f"{folder}{os.sep}", "")
+        told = ran.stderr.decode(errors="replace").strip().replace(hidden, "")
         if ran.returncode == 3:
             # the line at the end is for programs
             raise QuestionRefused(told.rpartition("\n")[0])
         raise DeviceError(told or f"zscli ended with status {ran.returncode}")
-
-
-def _by(told: str) -> Optional[_By]:
-    """By what records are grouped, if they are, by what `zscli` says of the question.
-
-    >>> _by("by: number u16be @0, of the values 0 to 63, a program for 64 values\\n")
-    _By(name='number', bits=16, last=63, of_program=64)
-    """
-    if "\nby: " not in f"\n{told}":
-        return None
-    [(name, bits, last, of_program)] = _BY.findall(told)
-    return _By(name, int(bits), int(last), int(of_program))
 
 
 def _check_blocks(blocks: Optional[int]) -> None:
@@ -727,9 +649,9 @@ def query_all(
     **words: Any,
 ) -> Any:
     """Asks several devices one question side by side, each in a call of an executor, and gives one answer: rows in the order of the
-    devices, or the tallies of them all, with `by` those of each value. The zone is one for all, or one for each; the words are those of
-    `Commands.query`. It ends when all devices are done; if one fails, its error is raised, of several the first in the order of the
-    devices.
+    devices, or the tallies of them all; with `by`, which is for images alone, those of each value. The zone is one for all, or one for
+    each; the words are those of `Question`. It ends when all devices are done; if one fails, its error is raised, of several the first in
+    the order of the devices.
 
     An executor is one of `concurrent.futures`, or a `distributed.Client` of Dask. A device that is open can be asked in a thread of this
     process alone; other processes and machines get an image's path, or a function that opens a device there, of a module that they have.
@@ -848,8 +770,9 @@ class _Asking:
             raise
         self._device.reset(self._to.start)
 
-    def runs(self, blocks: int, appends: bool) -> Iterator[_Ran]:
-        """Runs the programs over so many blocks, and gives each run that has ended."""
+    def runs(self, blocks: int, appends: bool) -> Iterator[Tuple[int, int, pifnjarl.Result]]:
+        """Runs the programs over so many blocks, and gives of each run that has ended the slot, where it began to append, and what it
+        came to."""
         # the records of several programs come in order where each run is over one block; what a run appends fits an empty zone, as no
         # program emits more than a block for one
         most = 1 if appends and len(self._programs) > 1 else _MOST_BLOCKS
@@ -857,7 +780,7 @@ class _Asking:
             for index in range(len(self._programs)):
                 yield self._run(index, self._source.start + before, min(most, blocks - before))
 
-    def _run(self, index: int, lba: int, blocks: int) -> _Ran:
+    def _run(self, index: int, lba: int, blocks: int) -> Tuple[int, int, pifnjarl.Result]:
         """Runs a program over blocks, to its end."""
         program, slot = self._programs[index], self._held(index)
         # what is emitted for so many blocks goes into one, whatever matches
@@ -868,7 +791,7 @@ class _Asking:
             self._used = 0
         done = self._device._run_to_end(slot, lba, blocks, self._to.start, self._argument)
         at, self._used = self._to.start + self._used, self._used + done.blocks
-        return _Ran(program, slot, at, done)
+        return slot, at, done
 
     def _held(self, index: int) -> int:
         """The slot of a program, which is loaded there where it isn't yet."""

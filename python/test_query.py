@@ -140,37 +140,62 @@ class Answers(Over):
             self.assertEqual(found, Tallies(4, (sum(values) - low) % 2**64 + low, min(values), max(values)))
 
     def test_tallies_of_each_value(self) -> None:
-        """Of a byte in as many programs as its values need, of a wider field in one; in blocks of several sizes."""
-        for block, blocks in ((512, 64), (4096, 3)):
-            device = self.device(f"{block}.img", block=block)
-            rows = orders(block // 32 * blocks)
-            device.append(0, data(rows, block))
+        """Of a byte, and of a wider field; in blocks of several sizes, and of a journal; the file stays as it is."""
+        for name, block, blocks in (("small.img", 512, 64), ("wide.img", 4096, 3), ("journal", 512, 5)):
+            rows, image = orders(block // 32 * blocks), self.folder / name
+            pifnjarl.format_image(image, block=block)
+            with pifnjarl.Device(image, durable=name == "journal") as device:
+                device.append(64, data(rows, block))
+            before = image.read_bytes()
             tallied: Dict[str, Any] = {"sum": "temperature", "least": "temperature", "greatest": "price"}
-            found = device.query(0, LAYOUT, "price < arg", argument=2**31, by="region", **tallied)
+            found = pifnjarl_query.Question(LAYOUT, "price < arg", by="region", **tallied).ask_image(image, 64, argument=2**31)
             self.assertEqual(found, groups([row for row in rows if row.price < 2**31], "region"))
             self.assertEqual(list(found), sorted(found))
-            few = device.query(0, LAYOUT, "number in 1..=31", by="number", **tallied)
+            few = pifnjarl_query.Question(LAYOUT, "number in 1..=31", by="number", **tallied).ask_image(image, 64)
             self.assertEqual(few, groups(rows[:31], "number"))
-            self.assertEqual(device.query(0, LAYOUT, "region == 9", by="region", count=True), {})
-            counts = {region: Tallies(tallies.count) for region, tallies in groups(rows, "region").items()}
-            self.assertEqual(device.query(0, LAYOUT, "number != 0", by="region", count=True), counts)
+            counts = pifnjarl_query.Question(LAYOUT, "number != 0", by="region", count=True).ask_image(image, 64, blocks=1)
+            regions = [row.region for row in rows[: block // 32]]
+            self.assertEqual(counts, {region: Tallies(regions.count(region)) for region in sorted(set(regions))})
+            self.assertEqual(pifnjarl_query.Question(LAYOUT, "region == 9", by="region", count=True).ask_image(image, 64), {})
+            self.assertEqual(image.read_bytes(), before)
 
-    def test_a_value_that_has_no_group_is_refused(self) -> None:
-        """By a device as by `zscli` of its image, and with the same sentence."""
+    def test_a_field_has_the_name_of_a_tally(self) -> None:
+        """So that a row has two columns of this name."""
+        with self.device() as device:
+            device.append(0, bytes([7, 7, 5]).ljust(512, b"\0"))
+        found = pifnjarl_query.Question([("count", "u8")], "count != 0", count=True, by="count").ask_image(self.folder / "zoned.img", 0)
+        self.assertEqual(found, {5: Tallies(1), 7: Tallies(2)})
+
+    def test_values_without_a_group_are_refused(self) -> None:
+        """Those of a wide field that are too great. A device isn't asked for groups at all, and nothing runs there."""
         device = self.device()
         device.append(0, data(orders(16 * 20)))
         device.save()
-        for where, total, lacking, last in (("number > 0", None, 193, 127), ("number > 60", "price", 257, 63)):
-            question = pifnjarl_query.Question(LAYOUT, where, count=True, sum=total, by="number")
-            said = (
-                f"--by number: of the records that match {lacking} have a value of {last + 1} or more, and there are groups for 0 to "
-                f"{last}; add `&& number < {last + 1}` to the condition, or ask for fewer tallies"
-            )
-            for ask in (partial(question.ask, device), partial(question.part_of_image, self.folder / "zoned.img")):
-                with self.assertRaises(pifnjarl_query.QuestionRefused) as refused:
-                    ask(0)
-                self.assertEqual(str(refused.exception), said)
-        self.assertEqual([zone.state for zone in device.report()[1:]], [ZoneState.EMPTY] * 3)
+        question = pifnjarl_query.Question(LAYOUT, "number > 60", sum="price", by="number")
+        with self.assertRaisesRegex(pifnjarl_query.QuestionRefused, "^--by number: of the records that match 257 have a value of 64 or"):
+            question.ask_image(self.folder / "zoned.img", 0)
+        with self.assertRaisesRegex(pifnjarl_query.QuestionRefused, "^by: only an image or a journal is asked"):
+            device.query(0, LAYOUT, "number < 60", sum="price", by="number")
+        with self.assertRaises(pifnjarl.NoSuchProgram):
+            device.result(7)
+
+    def test_an_image_in_which_nothing_is_written(self) -> None:
+        """It has no record, whatever its zone's state; of one that is Offline nothing is known, and of its first blocks there are none."""
+        device = self.device()
+        device.open(64)
+        device.finish(128)
+        device.fault(192, ZoneState.OFFLINE)
+        device.save()
+        image = self.folder / "zoned.img"
+        counted = pifnjarl_query.Question(LAYOUT, "number != 0", least="price")
+        for zone in (0, 64, 128):
+            self.assertEqual(pifnjarl_query.Question(LAYOUT, "number != 0").ask_image(image, zone), [])
+            self.assertEqual(counted.ask_image(image, zone), Tallies(0))
+            self.assertEqual(pifnjarl_query.Question(LAYOUT, "number != 0", count=True, by="region").ask_image(image, zone), {})
+            with self.assertRaisesRegex(pifnjarl_query.QuestionRefused, "no block of the zone is written"):
+                counted.ask_image(image, zone, blocks=1)
+        with self.assertRaisesRegex(pifnjarl_query.QuestionRefused, "the zone is offline"):
+            counted.ask_image(image, 192)
 
     def test_a_layout_is_given_in_several_ways(self) -> None:
         """As text, as a path, and as a list of fields, whose records are as long as these."""
@@ -266,7 +291,7 @@ class Drawn(Over):
     """Questions that are drawn, as tests/random_questions draws them."""
 
     def test_what_python_gives_follows_from_the_definitions(self) -> None:
-        """Rows, tallies and groups, of devices and of images; bytes are in hexadecimal there."""
+        """Rows and tallies, of devices and of images, and of images those of each value; bytes are in hexadecimal there."""
         for seed in range(1001, 1041):
             drawn = draw.draw(seed)
             for name, content in drawn.files.items():
@@ -283,19 +308,16 @@ class Drawn(Over):
             with self.subTest(seed=seed, words=drawn.words):
                 if drawn.answer is None:
                     with self.assertRaises(pifnjarl_query.QuestionRefused):
-                        question.part_of_image(self.folder / "zoned.img", zone, **asked)
-                    with pifnjarl.Device(self.folder / "zoned.img") as device:
-                        with self.assertRaises(pifnjarl_query.QuestionRefused):
-                            question.ask(device, zone, **asked)
+                        question.ask_image(self.folder / "zoned.img", zone, **asked)
                     continue
                 try:
-                    of_image = pifnjarl_query.joined([question.part_of_image(self.folder / "zoned.img", zone, **asked)])
+                    found = question.ask_image(self.folder / "zoned.img", zone, **asked)
                 except pifnjarl_query.QuestionRefused as refused:
                     self.assertRegex(str(refused), "needs more than 8 programs")
                     continue
-                with pifnjarl.Device(self.folder / "zoned.img") as device:
-                    found = question.ask(device, zone, **asked)
-                self.assertEqual(found, of_image)
+                if "--by" not in drawn.words:
+                    with pifnjarl.Device(self.folder / "zoned.img") as device:
+                        self.assertEqual(question.ask(device, zone, **asked), found)
                 kinds = [name.partition("(")[0] for name in drawn.answer.names]
                 if isinstance(found, Tallies):
                     rows = [[getattr(found, kind) for kind in kinds]]
@@ -479,9 +501,6 @@ class Wrong(Over):
             ("region == 3", ["--sum=word"], {"sum": "word"}),
             ("region == 3", ["--count", "--select=number"], {"count": True, "select": "number"}),
             ("region == 3", ["--sum=(["], {"sum": "(["}),
-            ("region == 3", ["--by=region"], {"by": "region"}),
-            ("region == 3", ["--count", "--by=temperature"], {"count": True, "by": "temperature"}),
-            ("region == 3", ["--count", "--by=regon"], {"count": True, "by": "regon"}),
         ]
         for where, options, words in cases:
             ran = subprocess.run([*line, f"--where={where}", *options], capture_output=True, text=True, check=False)
@@ -550,6 +569,19 @@ class Several(Over):
             with pifnjarl.Device(self.images[-1]) as device:
                 device.append(0, data(self.rows[-1], block))
 
+    def ask_images(self, executor: Any) -> None:
+        """The same of images by their paths, and tallies of each value, which one has or several."""
+        self.ask(list(self.images), executor)
+        tallied: Dict[str, Any] = {"sum": "temperature", "least": "temperature", "greatest": "price"}
+        rows = [row for its in self.rows for row in its]
+        for where, by, some in (
+            ("number != 0", "region", rows),
+            ("number < 32", "number", [row for row in rows if row.number < 32]),
+            ("region == 4 && number < 600 && number > 500", "region", [row for row in rows if row.region == 4 and 500 < row.number < 600]),
+        ):
+            found = pifnjarl.query_all(self.images, 0, LAYOUT, where, executor=executor, by=by, **tallied)
+            self.assertEqual((found, list(found)), (groups(some, by), sorted(found)))
+
     def devices(self) -> List[pifnjarl.Device]:
         """A device over each."""
         found = []
@@ -572,12 +604,6 @@ class Several(Over):
         self.assertEqual(last, Tallies(40, sum(prices), 601, max(prices)))
         none = pifnjarl.query_all(asked, 0, LAYOUT, "region == 9", executor=executor, **tallied)
         self.assertEqual(none, Tallies(0, 0, None, None))
-        tallied = {"sum": "temperature", "least": "temperature", "greatest": "price"}
-        all_rows = [row for its in self.rows for row in its]
-        for by, some in (("region", all_rows), ("number", [row for row in all_rows if row.number < 32])):
-            where = "number != 0" if by == "region" else "number < 32"
-            grouped = pifnjarl.query_all(asked, 0, LAYOUT, where, executor=executor, by=by, **tallied)
-            self.assertEqual((grouped, list(grouped)), (groups(some, by), sorted(grouped)))
         first = pifnjarl.query_all(asked, [0] * 5, LAYOUT, "number != 0", executor=executor, blocks=1, count=True)
         self.assertEqual(first, Tallies(3 * 16 + 2 * 128))
         other = pifnjarl.query_all(asked, [0, 64, 64, 64, 64], LAYOUT, "number != 0", executor=executor, select="number")
@@ -596,6 +622,7 @@ class Several(Over):
             device.query(64, LAYOUT, "number != 0", count=True)
         before = [image.read_bytes() for image in self.images]
         with ThreadPoolExecutor() as executor:
+            self.ask_images(executor)
             self.ask([*self.images[:4], str(self.images[4])], executor)
             with self.assertRaisesRegex(ValueError, "17 is the lowest LBA of no zone of .*0.img"):
                 pifnjarl.query_all(self.images, 17, LAYOUT, "number != 0", executor=executor)
@@ -605,13 +632,18 @@ class Several(Over):
                     pifnjarl.query_all([self.folder / name], 0, LAYOUT, "number != 0", executor=executor)
             with self.assertRaisesRegex(pifnjarl_query.QuestionRefused, "no field of this name"):
                 pifnjarl.query_all(self.images, 0, LAYOUT, "nr != 0", executor=executor)
+            with self.assertRaisesRegex(pifnjarl_query.QuestionRefused, "^--by number: of the records that match 513 have"):
+                pifnjarl.query_all(self.images[4:], 0, LAYOUT, "number != 0", executor=executor, count=True, by="number")
+            asked: List[Any] = [*self.images, partial(pifnjarl.Device, self.images[0])]
+            with self.assertRaisesRegex(pifnjarl_query.QuestionRefused, "^by: only an image or a journal is asked"):
+                pifnjarl.query_all(asked, 0, LAYOUT, "number != 0", executor=executor, count=True, by="region")
         self.assertEqual([image.read_bytes() for image in self.images], before)
 
     def test_other_processes_are_asked(self) -> None:
         """Of images, and of devices that they open."""
         opening: List[Any] = [partial(pifnjarl.Device, image, durable=number == 1) for number, image in enumerate(self.images)]
         with ProcessPoolExecutor(max_workers=2) as executor:
-            self.ask(list(self.images), executor)
+            self.ask_images(executor)
             self.ask([*self.images[:3], *opening[3:]], executor)
             self.ask(opening, executor)
             with self.assertRaises(pifnjarl_query.QuestionRefused):
@@ -627,7 +659,7 @@ class Several(Over):
             self.skipTest("there is no distributed here")
         with distributed.LocalCluster(n_workers=2, threads_per_worker=1, dashboard_address=None, local_directory=self.folder) as cluster:
             with distributed.Client(cluster) as client:
-                self.ask(list(self.images), client)
+                self.ask_images(client)
                 self.ask([partial(pifnjarl.Device, image) for image in self.images], client)
 
     def test_rows_of_several_are_one_array(self) -> None:

@@ -274,7 +274,9 @@ class Draw:
         unsigned = [column for column in numbers if column.field is not None and not column.field.signed]
         if not unsigned or self.maybe(0.5):
             return Wanted(words, tallies=named)
-        by = self.rng.choice(unsigned)
+        # few wide fields have small values
+        small = [column for column in unsigned if column.size == 1]
+        by = self.rng.choice(small if small and self.maybe(0.7) else unsigned)
         return Wanted([*words, "--by", by.name], tallies=named, by=by)
 
     def drawn(self) -> Drawn:
@@ -303,11 +305,12 @@ class Draw:
         front = ["query", "zoned.img", "--zone", str(zone), "--layout", "layout", f"--where={condition.text}"]
         given = ["--argument", str(self.argument)] if self.argument or self.maybe(0.5) else []
         files = {"zoned.img": image(self.block, zone, blocks), "layout": self.layout()}
-        lacking = lacking_groups(question, self.argument, asked)
+        records = [record for block in asked for record in meaning.matching(question, self.argument, block)]
+        lacking = sum(meaning.group_of(by, record) is None for record in records)
         if by is not None and lacking:
             told = f"--by {by_name}: of the records that match {lacking} have a value of {by.values} or more"
             return Drawn(files, [*front, *given, *words], None, told)
-        return Drawn(files, [*front, *given, *words], answer_of(question, self.argument, asked, wanted))
+        return Drawn(files, [*front, *given, *words], answer_of(question, records, wanted))
 
     # ---- questions that can't be asked
 
@@ -355,28 +358,22 @@ class Draw:
 # ---- answers
 
 
-def answer_of(question: meaning.Question, argument: int, blocks: List[bytes], wanted: Wanted) -> Answer:
-    """The answer of a question about blocks."""
-    emitted = b"".join(piece for block in blocks for piece in meaning.answer(question, argument, block))
-    records = matching_in(question, argument, blocks)
-    names = [column.name for column in wanted.columns] or [name for name, _ in wanted.tallies]
+def answer_of(question: meaning.Question, records: List[bytes], wanted: Wanted) -> Answer:
+    """The answer of a question of which these records match, each of a group."""
+    emitted = b"".join(meaning.cuts(question.emitted, records))
     if wanted.columns:
-        return Answer(names, [[cell(column, record) for column in wanted.columns] for record in records], emitted)
+        rows = [[cell(column, record) for column in wanted.columns] for record in records]
+        return Answer([column.name for column in wanted.columns], rows, emitted)
+    names = [name for name, _ in wanted.tallies]
     if question.by is None or wanted.by is None:
         return Answer(names, [tally_values(question, records)], emitted)
-    groups = [meaning.records_of(question.by, group, records) for group in range(meaning.groups(question.by))]
-    rows = [[question.by.first + group, *tally_values(question, some)] for group, some in enumerate(groups) if some]
+    groups: Dict[int, List[bytes]] = {}
+    for record in records:
+        group = meaning.group_of(question.by, record)
+        assert group is not None
+        groups.setdefault(group, []).append(record)
+    rows = [[question.by.first + group, *tally_values(question, groups[group])] for group in sorted(groups)]
     return Answer([wanted.by.name, *names], rows, emitted)
-
-
-def matching_in(question: meaning.Question, argument: int, blocks: List[bytes]) -> List[bytes]:
-    """The records of blocks that match."""
-    return [record for block in blocks for record in meaning.matching(question, argument, block)]
-
-
-def lacking_groups(question: meaning.Question, argument: int, blocks: List[bytes]) -> int:
-    """How many of the records that match are of no group."""
-    return sum(meaning.group_of(question.by, record) is None for record in matching_in(question, argument, blocks))
 
 
 def tally_values(question: meaning.Question, records: List[bytes]) -> List[object]:

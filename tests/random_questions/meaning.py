@@ -218,13 +218,18 @@ def cut(some: ByteRange, record: Record) -> bytes:
     return record[some.offset :][: some.size]
 
 
+def cuts(some: Optional[ByteRange], records: List[Record]) -> List[bytes]:
+    """What is emitted of these records: nothing, where no range is."""
+    return [] if some is None else [cut(some, record) for record in records]
+
+
 def answer(question: Question, argument: int, block: bytes) -> List[bytes]:
     """The answer of a block: what is emitted of its records that match, in order.
 
     >>> answer(Question(0, 2, 3, Bytes(0, b"a"), ByteRange(1, 1), []), 0, b"a1b2a3")
     [b'1', b'3']
     """
-    return [] if question.emitted is None else [cut(question.emitted, record) for record in matching(question, argument, block)]
+    return cuts(question.emitted, matching(question, argument, block))
 
 
 def word_in(field: Field, record: Record) -> int:
@@ -261,11 +266,6 @@ def tally_step(tally: Tally, record: Record, word: int) -> int:
     return steps[tally.kind]
 
 
-def groups(by: Optional[Grouping]) -> int:
-    """How many groups there are."""
-    return 1 if by is None else by.values
-
-
 def group_of(by: Optional[Grouping], record: Record) -> Optional[int]:
     """The group of a record, if it has one: the only one, or that of the value of the field.
 
@@ -276,20 +276,6 @@ def group_of(by: Optional[Grouping], record: Record) -> Optional[int]:
         return 0
     value = number_in(by.field, record)
     return value - by.first if by.first <= value < by.first + by.values else None
-
-
-def is_of(by: Optional[Grouping], group: int, record: Record) -> bool:
-    """Is a record of this group?"""
-    return by is None or number_in(by.field, record) == by.first + group
-
-
-def records_of(by: Optional[Grouping], group: int, records: List[Record]) -> List[Record]:
-    """Those of these records that are of a group, in order.
-
-    >>> records_of(Grouping(Field(1, 0), 0, 256), 97, [b"a1", b"b2", b"a3"])
-    [b'a1', b'a3']
-    """
-    return [record for record in records if is_of(by, group, record)]
 
 
 def tally_from(tally: Tally, records: List[Record], word: int) -> int:
