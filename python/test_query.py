@@ -18,7 +18,7 @@ from unittest import mock
 
 HERE = Path(__file__).resolve().parent
 sys.path[:0] = [str(HERE), str(HERE.parent / "tests" / "random_questions")]
-import draw
+import draw  # type: ignore
 import pifnjarl
 import pifnjarl_query
 from pifnjarl import ZoneState
@@ -648,8 +648,9 @@ class Several(Over):
             self.ask(opening, executor)
             with self.assertRaises(pifnjarl_query.QuestionRefused):
                 pifnjarl.query_all(opening, 0, LAYOUT, "nr != 0", executor=executor)
-            with self.assertRaisesRegex(TypeError, "a device that is open can't go to another process"):
-                pifnjarl.query_all(self.devices(), 0, LAYOUT, "number != 0", executor=executor)
+            with pifnjarl.Device(self.images[0]) as device:
+                with self.assertRaisesRegex(TypeError, "a device that is open can't go to another process"):
+                    pifnjarl.query_all([device], 0, LAYOUT, "number != 0", executor=executor)
 
     def test_a_cluster_is_asked(self) -> None:
         """Of two processes, where Dask's distributed is installed."""

@@ -291,7 +291,7 @@ Without an image, for blocks of so many bytes: how the question is understood, a
   where: u8@2 == arg
   records: 128 of 32 bytes in each block, from byte 0 on
   tally: count, sum(price)
-  program: 1284 of 4096 slots, for 128 records of each block; it emits at most 0 bytes for a block (--emit 0)
+  program: 1156 of 4096 slots, for 128 records of each block; it emits at most 0 bytes for a block (--emit 0)
   $ zscli query --block 512 --layout whole.layout --where 'price > 90000' --program third.bin --part 1
   entry load --slot 1 --program third.bin --emit 272
   $ cmp second.bin third.bin
@@ -325,13 +325,10 @@ There is no answer without an image, and no image without a zone.
   $ of_blocks --explain orders.img --zone 0 --block 512
   error: the argument '[IMAGE]' cannot be used with '--block <B>'
   
-  Usage: zscli query --layout <FILE> --where <CONDITION> --zone <Z> --select <FIELDS> --explain <IMAGE|--block <B>>
+  Usage: zscli query --layout <FILE> --where <CONDITION> --select <FIELDS> --explain --zone <Z> <IMAGE|--block <B>>
   
   For more information, try '--help'.
   [2]
-  $ of_blocks --block 512 --explain --zone 0 2>&1 | head -n 2
-  error: the following required arguments were not provided:
-    <IMAGE>
   $ of_blocks --block 512 --explain --part 0 2>&1 | head -n 2
   error: the following required arguments were not provided:
     --program <FILE>
